@@ -1,0 +1,3 @@
+pub mod Bytes
+pub mod Field
+pub mod Photon
