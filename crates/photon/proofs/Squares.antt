@@ -10,6 +10,7 @@ use Rattle.std.proofs.shelf.Counted.{getD-map-counting, length-map-counting, fi
 use Rattle.std.proofs.shelf.Lists.{getD-past}
 use Rattle.std.proofs.shelf.Tests.{cases-lt}
 use Rattle.photon.specs.Photon.{Square, cell, square}
+pub use Rattle.photon.specs.Cells.{Cells}
 
 pub row-square : (f : ℕ → ℕ → ℕ) (i : ℕ) → i < 8 → getD (square f) i [] ≡ map (f i) (counting 0 8)
 unfolding square
@@ -39,10 +40,6 @@ pub square-ext : (f g : ℕ → ℕ → ℕ) → ((i j : ℕ) → i < 8 → j < 
 square-ext f g h =
     square-by-rows g (square f) (square-length f)
     (λ i hi. row-square f i hi ∙ counted-ext (f i) (g i) 8 0 (λ j hj. h i j hi hj))
-
--- every cell of X is a number of 4 bits; past the square a cell reads 0
-abbrev pub Cells : Square → Type 0
-Cells X = (i j : ℕ) → cell X i j < 16
 
 pub cells-square : (f : ℕ → ℕ → ℕ) → ((i j : ℕ) → i < 8 → j < 8 → f i j < 16) → Cells (square f)
 cells-square f h i j =

@@ -1,0 +1,77 @@
+-- The loops that multiply in the field: one digit, or one cell, at a time. Assumes nothing.
+use mathlib.Core.Path.{_≡_, refl, sym, ap, _∙_}
+use mathlib.Core.Bool.{Bool, true, false, cond}
+use mathlib.Core.List.{List, [], _∷_, map}
+use Prim.Native.Nat.{ℕ, suc, _+_, _-_, _/_, _%_, _^_, _≤_, _<_}
+use native.Mathlib.Nat.{div-one}
+use native.Mathlib.Omega.{arith}
+use native.Mathlib.Numerals.{add-one}
+use lib.Bits.{bitXor, xor-assoc, xor-zero-r}
+use lib.Dec.{eqb}
+use lib.ListN.{length, getD, drop}
+use Rattle.std.specs.Iters.{counting}
+use Rattle.std.proofs.shelf.Bits.{shr-shr}
+use Rattle.std.proofs.shelf.Counted.{fill-by-all}
+use Rattle.std.proofs.shelf.Lists.{drop-more}
+use Rattle.photon.specs.Cells.{lastRow}
+use Rattle.photon.specs.Field.{timesZ, timesLow, times, dot}
+use Rattle.photon.specs.Photon.{byM}
+
+-- what is summed up and what is left, after k of the four digits of a
+abbrev pub Digits : ℕ → ℕ → ℕ → ℕ → ℕ → Type 0
+Digits a b k sum power = bitXor sum (timesLow (4 - k) (a / 2 ^ k) power) ≡ times a b
+
+step : (t : Bool) (sum p rest : ℕ) → bitXor (cond t (bitXor sum p) sum) rest ≡ bitXor sum (bitXor (cond t p 0) rest)
+step true sum p rest = xor-assoc sum p rest
+step false sum p rest = refl
+
+pub digits-more : (a b k sum power : ℕ) → k < 4 → Digits a b k sum power
+    → Digits a b (k + 1) (cond (eqb (a / 2 ^ k % 2) 1) (bitXor sum power) sum) (timesZ power)
+digits-more a b k sum power h e =
+    let fewer : suc (4 - (k + 1)) ≡ 4 - k = omega arith in
+    ap (λ n. bitXor (cond (eqb (a / 2 ^ k % 2) 1) (bitXor sum power) sum) (timesLow (4 - (k + 1)) n (timesZ power))) (sym (shr-shr a k 1))
+    ∙ step (eqb (a / 2 ^ k % 2) 1) sum power (timesLow (4 - (k + 1)) (a / 2 ^ k / 2) (timesZ power))
+    ∙ ap (λ n. bitXor sum (timesLow n (a / 2 ^ k) power)) fewer
+    ∙ e
+
+pub digits-none : (a b : ℕ) → Digits a b 0 0 b
+unfolding times
+digits-none a b = ap (λ n. timesLow 4 n b) (div-one a)
+
+pub digits-all : (a b k sum power : ℕ) → 4 ≤ k → Digits a b k sum power → sum ≡ times a b
+digits-all a b k sum power h e =
+    let none : 4 - k ≡ 0 = omega arith in
+    sym (xor-zero-r sum) ∙ ap (λ n. bitXor sum (timesLow n (a / 2 ^ k) power)) (sym none) ∙ e
+
+-- what is summed up and what is left, after i cells
+abbrev pub Cellwise : List ℕ → List ℕ → ℕ → ℕ → Type 0
+Cellwise r c i sum = bitXor sum (dot (drop i r) (drop i c)) ≡ dot r c
+
+pub cellwise-more : (r c : List ℕ) (i sum : ℕ) → i < length r → i < length c → Cellwise r c i sum
+    → Cellwise r c (i + 1) (bitXor sum (times (getD r i 0) (getD c i 0)))
+cellwise-more r c i sum hr hc e =
+    xor-assoc sum (times (getD r i 0) (getD c i 0)) (dot (drop (i + 1) r) (drop (i + 1) c))
+    ∙ ap (λ (l : List ℕ). bitXor sum (dot l (getD c i 0 ∷ drop (i + 1) c))) (sym (drop-more r i 0 hr))
+    ∙ ap (λ (l : List ℕ). bitXor sum (dot (drop i r) l)) (sym (drop-more c i 0 hc))
+    ∙ e
+
+-- a column of eight cells, written out
+pub eight : (c : List ℕ) → length c ≡ 8 → c ≡ map (λ k. getD c k 0) (counting 0 8)
+eight c e = fill-by-all (λ k. getD c k 0) c 8 0 e (λ k h. refl)
+
+alone : (a : ℕ) → bitXor (bitXor a 0) 0 ≡ a
+alone a = ap (λ n. bitXor n 0) (xor-zero-r a) ∙ xor-zero-r a
+
+-- M moves cells 1 to 7 up by one; its last row gives the new cell 7
+pub moved : (a b c d e f g h : ℕ) → byM (a ∷ b ∷ c ∷ d ∷ e ∷ f ∷ g ∷ h ∷ []) ≡ b ∷ c ∷ d ∷ e ∷ f ∷ g ∷ h ∷ dot lastRow (a ∷ b ∷ c ∷ d ∷ e ∷ f ∷ g ∷ h ∷ []) ∷ []
+unfolding byM times
+moved a b c d e f g h =
+    λ i. alone b i ∷ alone c i ∷ alone d i ∷ alone e i ∷ alone f i ∷ alone g i ∷ alone h i ∷ dot lastRow (a ∷ b ∷ c ∷ d ∷ e ∷ f ∷ g ∷ h ∷ []) ∷ []
+
+pub byM-moves : (c : List ℕ) (last : ℕ) → length c ≡ 8 → last ≡ dot lastRow c
+    → getD c 1 0 ∷ getD c 2 0 ∷ getD c 3 0 ∷ getD c 4 0 ∷ getD c 5 0 ∷ getD c 6 0 ∷ getD c 7 0 ∷ last ∷ [] ≡ byM c
+byM-moves c last e h =
+    let same = eight c e in
+    ap (λ (n : ℕ). getD c 1 0 ∷ getD c 2 0 ∷ getD c 3 0 ∷ getD c 4 0 ∷ getD c 5 0 ∷ getD c 6 0 ∷ getD c 7 0 ∷ n ∷ []) (h ∙ ap (dot lastRow) same)
+    ∙ sym (moved (getD c 0 0) (getD c 1 0) (getD c 2 0) (getD c 3 0) (getD c 4 0) (getD c 5 0) (getD c 6 0) (getD c 7 0))
+    ∙ ap byM (sym same)
