@@ -1,5 +1,7 @@
 //! Why a call refuses. One enum for every layer; each case has a number, a layer and a byte place.
 ghost use mathlib.Core.Path.{_≡_};
+ghost use Rattle.std.specs.declared.option.Option.the-variants.{Some};
+ghost use Rattle.refusal.specs.Line.{layerName, reasonOf, line};
 ghost use Rattle.refusal.specs.Told.{told};
 use std::fmt;
 
@@ -11,6 +13,21 @@ pub enum Layer {
     Recipe,
     Register,
     Page,
+}
+
+impl Layer {
+    /// The layer's name, in lower case.
+    pub fn name(&self) -> &'static str
+        ensures { λ r. ⌜ now r ≡ layerName (now (self .entry)) ⌝ }
+    {
+        match self {
+            Layer::Cipher => "cipher",
+            Layer::Card => "card",
+            Layer::Recipe => "recipe",
+            Layer::Register => "register",
+            Layer::Page => "page",
+        }
+    }
 }
 
 /// A refusal. A case that names a byte of its input carries that place.
@@ -101,5 +118,48 @@ impl Refusal {
                 *place,
             _ => 0,
         }
+    }
+
+    /// The reason, in a few plain words.
+    pub fn reason(&self) -> &'static str
+        ensures { λ r. ⌜ now r ≡ reasonOf (now (self .entry)) ⌝ }
+    {
+        match self {
+            Refusal::TextTooLong => "the text is over 65,536 bytes",
+            Refusal::OutputTooShort => "the output buffer is too short",
+            Refusal::TagDiffers => "the tag is missing or differs",
+            Refusal::NotACard => "this is not a card",
+            Refusal::LengthTooLarge => "a length is too large",
+            Refusal::EmptyRecipe => "the recipe is empty",
+            Refusal::WrongCardLength => "the card has the wrong length",
+            Refusal::BufferTooShort => "the buffer is too short",
+            Refusal::BadLine(_) => "unknown letter, cut line or field out of range",
+            Refusal::WrongPhase(_) => {
+                "the line is wrong for the trough's phase, or the trough is not empty at the end"
+            }
+            Refusal::OverTotal => "the doses sum to over 12,000,000 g",
+            Refusal::NumberTooLarge => "the number is above 4,095",
+            Refusal::NumberUsed => "the number is used",
+            Refusal::TooManyRuns => "more runs of used numbers than the register keeps",
+            Refusal::BadPage(_) => "the number page is wrong",
+            Refusal::NotBlank => "the register is not blank",
+        }
+    }
+}
+
+/// The one form in which every program prints a refusal.
+pub impl fmt::Display for Refusal as RefusalDisplay {
+    ghost shown = { λ e. Some (line e) };
+
+    fn fmt<W: fmt::Write>(&self, f: &mut fmt::Formatter<W>) -> fmt::Result {
+        let number = self.number();
+        let layer = self.layer();
+        let name = layer.name();
+        let place = self.place();
+        let reason = self.reason();
+        write!(
+            f,
+            "refused by {number}, layer {name}, place {place}: {reason}"
+        )
     }
 }

@@ -10,7 +10,7 @@ pub loop-k-holds : need.loop-k-holds
 loop-k-holds c = (refl, subst Cells (sym (c .unpack-x .ensures)) (cells-squareOf (c .args .state .now) (c .fits-state)))
 
 pub one-round-next-requires : need.one-round-next-requires
-one-round-next-requires c κs = (c .loop-k-test .taken, c .loop-k .inv .1)
+one-round-next-requires c κs = (omega arith, c .loop-k .inv .1)
 
 pub loop-k-again : need.loop-k-again
 loop-k-again c =
