@@ -1,0 +1,69 @@
+//! The program: thin, everything that matters is in the libraries.
+mod hashing;
+mod input;
+mod speed;
+
+use std::env;
+use std::error::AnyError;
+
+const VERSION: &str = "lochgrater 0.1.0";
+
+const HELP: &str = "usage: lochgrater COMMAND
+  hash FILE..   print the PHOTON-Beetle digest of each file, '-' for standard input
+  speed         time the engines against each other
+  help          print this text
+  version       print the program's version";
+
+/// How a command ended. What failed has been said on standard error by then.
+#[derive(Clone, Copy)]
+enum Status {
+    Done,
+    Failed,
+}
+
+/// Ends the process with status 1.
+#[derive(Drop, Debug)]
+struct Failed;
+
+fn usage(rt: &LibcRuntime) -> Result<Status, AnyError> {
+    eprintln!(rt, "{HELP}")?;
+    Ok(Status::Failed)
+}
+
+fn run(rt: &LibcRuntime, words: &[String]) -> Result<Status, AnyError> {
+    let Some((command, names)) = words.split_first() else {
+        return usage(rt);
+    };
+    match command.as_str() {
+        "hash" => hashing::hash_files(rt, names),
+        "speed" => speed::compare(rt),
+        "help" => {
+            println!(rt, "{HELP}")?;
+            Ok(Status::Done)
+        }
+        "version" => {
+            println!(rt, "{VERSION}")?;
+            Ok(Status::Done)
+        }
+        _ => usage(rt),
+    }
+}
+
+fn words(rt: &LibcRuntime) -> Result<Vec<String>, AnyError> {
+    Ok(env::args(rt)?.skip(1).collect(rt.alloc())?)
+}
+
+fn main(rt: LibcRuntime) -> Result<(), Failed> {
+    let ended = match words(&rt) {
+        Ok(all) => run(&rt, all.as_slice()),
+        Err(e) => Err(e),
+    };
+    match ended {
+        Ok(Status::Done) => Ok(()),
+        Ok(Status::Failed) => Err(Failed),
+        Err(e) => {
+            let _ = eprintln!(rt, "lochgrater: {e}");
+            Err(Failed)
+        }
+    }
+}
