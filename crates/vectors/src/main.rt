@@ -1,0 +1,44 @@
+//! Runs test vectors in the layout of the designers' known-answer files: blocks of lines `NAME = VALUE`, a blank line after each.
+mod hashes;
+mod layout;
+
+use layout::Vector;
+use std::env;
+use std::error::AnyError;
+use std::fs;
+use std::io;
+
+const HELP: &str = "usage: vectors hash FILE ..";
+
+
+/// Runs every vector of a file, and names those that disagree.
+fn run_file(rt: &LibcRuntime, kind: &str, name: &str) -> Result<bool, AnyError> {
+    let text = fs::read_to_string(rt, name)?;
+    let vectors = layout::parse(rt.alloc(), text.as_str())?;
+    match kind {
+        "hash" => hashes::run(rt, name, vectors.as_slice()),
+        _ => Err(HELP.into()),
+    }
+}
+
+fn run(rt: &LibcRuntime) -> Result<(), AnyError> {
+    let mut all_agree = true;
+    let mut words = env::args(rt)?.skip(1);
+    while let Some(kind) = words.next() {
+        let Some(name) = words.next() else {
+            return Err(HELP.into());
+        };
+        if !run_file(rt, kind.as_str(), name.as_str())? {
+            all_agree = false;
+        }
+    }
+    if all_agree {
+        Ok(())
+    } else {
+        Err("some vectors disagree".into())
+    }
+}
+
+fn main(rt: LibcRuntime) -> Result<(), AnyError> {
+    rt.report(run(&rt))
+}
