@@ -1,5 +1,6 @@
 //! Permutation engines: the 32-byte state of a sponge, and what replaces it.
 mod bench;
+mod table;
 
 ghost use Prim.Native.Nat.{ℕ};
 ghost use mathlib.Core.Path.{_≡_};
@@ -7,6 +8,8 @@ ghost use mathlib.Core.List.{List};
 ghost use Rattle.photon.specs.Bytes.{Bytes};
 pub use bench::BenchEngine;
 pub use bench::BenchEngineEngine;
+pub use table::TableEngine;
+pub use table::TableEngineEngine;
 
 /// An engine means a map on 32 bytes. It shows that and nothing more.
 pub trait Engine {
