@@ -4,3 +4,8 @@ pub mod Filled
 pub mod Packing
 pub mod Product
 pub mod Squares
+pub mod TableBits
+pub mod TableColumns
+pub mod TableLinear
+pub mod TableRound
+pub mod TableRules

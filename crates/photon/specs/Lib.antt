@@ -2,3 +2,4 @@ pub mod Bytes
 pub mod Cells
 pub mod Field
 pub mod Photon
+pub mod Table

@@ -1,6 +1,7 @@
 //! Permutation engines: the 32-byte state of a sponge, and what replaces it.
 mod bench;
 mod cell;
+mod table;
 
 ghost use Prim.Native.Nat.{ℕ};
 ghost use mathlib.Core.Path.{_≡_};
@@ -10,6 +11,8 @@ pub use bench::BenchEngine;
 pub use bench::BenchEngineEngine;
 pub use cell::CellEngine;
 pub use cell::CellEngineEngine;
+pub use table::TableEngine;
+pub use table::TableEngineEngine;
 
 /// An engine means a map on 32 bytes. It shows that and nothing more.
 pub trait Engine {
