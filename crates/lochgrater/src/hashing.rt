@@ -3,8 +3,8 @@ use crate::Status;
 use crate::input::read_up_to;
 use beetle::DIGEST_BYTES;
 use beetle::LONGEST_TEXT;
-use photon::CellEngine;
-use photon::CellEngineEngine;
+use photon::TableEngine;
+use photon::TableEngineEngine;
 use refusal::RefusalDisplay;
 use std::error::AnyError;
 
@@ -31,7 +31,7 @@ fn hash_file(rt: &LibcRuntime, name: &str) -> Result<Status, AnyError> {
         }
     };
     let mut digest = [0; DIGEST_BYTES];
-    if let Err(refusal) = beetle::hash(&CellEngine, text.as_slice(), &mut digest) {
+    if let Err(refusal) = beetle::hash(&TableEngine, text.as_slice(), &mut digest) {
         eprintln!(rt, "lochgrater: {name}: {refusal}")?;
         return Ok(Status::Failed);
     }

