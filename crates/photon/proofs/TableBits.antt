@@ -6,9 +6,11 @@ use Prim.Native.Nat.{ℕ, zero, suc, _+_, _-_, _*_, _/_, _%_, _^_, _<_, _≤_}
 use native.Mathlib.Nat.{lt-of-lt-of-le}
 use native.Mathlib.Omega.{arith}
 use lib.Arith.{digits-lt}
-use lib.Bits.{bitAnd, bitOr, and-mask, and-high, or-shifted}
+use lib.Bits.{bitAnd, bitOr, and-le-r, and-mask, and-high, or-lt, or-shifted}
 use lib.Dec.{eqb}
 use lib.ListN.{length, getD, drop, length-drop}
+use mir.Syntax.{w8, w64}
+use mir.Val.{Fits}
 use lib.Pow.{pow-add, pow-mono}
 use Rattle.std.proofs.shelf.Bits.{shr-shr, shl-whole}
 use Rattle.std.proofs.shelf.Lists.{drop-more, getD-drop}
@@ -17,6 +19,22 @@ use Rattle.photon.specs.Table.{packed, columnOf, unpacked, turned}
 use Rattle.photon.proofs.Bounds.{Small, byteOf, half-small, cells-squareOf}
 use Rattle.photon.proofs.Squares.{cell-square}
 use Rattle.photon.proofs.TableColumns.{length-columnOf, cell-columnOf, cell-unpacked, small-columnOf}
+
+-- a high and a low half make a byte
+pub halves-below : (x y : ℕ) → bitOr (bitAnd x 240) (bitAnd y 15) < 256
+halves-below x y =
+    let hx = and-le-r x 240 in
+    let hy = and-le-r y 15 in
+    or-lt 8 (bitAnd x 240) (bitAnd y 15) (omega arith) (omega arith)
+
+pub halves-fit : (x y : ℕ) → Fits w64 (bitOr (bitAnd x 240) (bitAnd y 15))
+halves-fit x y = omega (arith, halves-below x y)
+
+pub raised-fit : (x y : ℕ) → Fits w8 (bitOr (bitAnd x 15 * 16 % 2 ^ 32) (bitAnd y 15))
+raised-fit x y =
+    let hx = and-le-r x 15 in
+    let hy = and-le-r y 15 in
+    record { fits = or-lt 8 (bitAnd x 15 * 16 % 2 ^ 32) (bitAnd y 15) (omega arith) (omega arith) }
 
 -- two neighbouring rows of two columns, as the index of an entry
 pub index-is : (w : List ℕ) (j t : ℕ) → j < 8 → t < 4 → bitOr (bitAnd (getD w ((j + 2 * t + 1) % 8) 0 / 2 ^ (8 * t)) 240) (bitAnd (getD w ((j + 2 * t) % 8) 0 / 2 ^ (8 * t)) 15) ≡ turned (unpacked w) j t

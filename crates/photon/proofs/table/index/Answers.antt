@@ -1,18 +1,13 @@
-use native.Mathlib.Omega.{arith}
-use Rattle.photon.specs.Table.{unpacked}
-use Rattle.photon.proofs.TableBits.{index-is}
-use Rattle.photon.proofs.TableColumns.{cells-unpacked}
-use Rattle.photon.proofs.TableRound.{turned-small}
+use borrow.Author.Needs.{needs}
+use Rattle.photon.proofs.TableBits.{halves-below, halves-fit, index-is}
 use Rattle.photon.proofs.table.index.Needs as need
 
 pub cast-result : need.cast-result
-cast-result c =
-    let w = c .args .columns .now in
-    let e = index-is w (c .args .j) (c .args .t) (c .pre .0) (c .pre .1) in
-    omega (arith, e, turned-small (unpacked w) (c .args .j) (c .args .t) (cells-unpacked w))
+cast-result c = search (needs, halves-fit)
 
 pub returns : need.returns
 returns c =
-    let w = c .args .columns .now in
-    let e = index-is w (c .args .j) (c .args .t) (c .pre .0) (c .pre .1) in
-    record { value = e; below = omega (arith, e, turned-small (unpacked w) (c .args .j) (c .args .t) (cells-unpacked w)) }
+    record {
+      value = index-is (c .args .columns .now) (c .args .j) (c .args .t) (c .pre .0) (c .pre .1);
+      below = search (needs, halves-below);
+    }

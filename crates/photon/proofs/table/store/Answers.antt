@@ -2,22 +2,19 @@ use mathlib.Core.Path.{_≡_, subst, sym}
 use mathlib.Core.List.{List}
 use Prim.Native.Nat.{ℕ, _<_, _+_}
 use native.Mathlib.Omega.{arith}
+use borrow.Author.Needs.{needs}
 use lib.ListN.{getD, set}
 use Rattle.std.proofs.shelf.Counted.{fill-by-all}
 use Rattle.std.proofs.shelf.Edits.{fill-by-more}
 use Rattle.std.proofs.shelf.Lists.{length-set}
 use Rattle.photon.specs.Photon.{bytesOf}
 use Rattle.photon.specs.Table.{unpacked}
-use Rattle.photon.proofs.Bounds.{byteOf, byteOf-small}
-use Rattle.photon.proofs.TableBits.{byte-is}
-use Rattle.photon.proofs.TableColumns.{cells-unpacked}
+use Rattle.photon.proofs.Bounds.{byteOf}
+use Rattle.photon.proofs.TableBits.{byte-is, raised-fit}
 use Rattle.photon.proofs.table.store.Needs as need
 
 pub cast-state : need.cast-state
-cast-state c =
-    let w = c .args .columns .now in
-    let k = c .loop-k .k in
-    omega (arith, byte-is w k (c .loop-k-test .taken), byteOf-small (unpacked w) k (cells-unpacked w))
+cast-state c = search (needs, raised-fit)
 
 pub loop-k-again : need.loop-k-again
 loop-k-again c =
