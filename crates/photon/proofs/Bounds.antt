@@ -1,6 +1,6 @@
 -- Every step of PHOTON256 keeps cells of 4 bits, so the whole sends 32 bytes to 32 bytes. Assumes nothing.
-use mathlib.Core.Path.{_≡_, refl, sym, ap, subst, _∙_}
-use mathlib.Core.Bool.{Bool, true, false, cond}
+use mathlib.Core.Path.{sym, subst}
+use mathlib.Core.Bool.{cond}
 use mathlib.Core.Logic.{⊎-elim}
 use mathlib.Core.List.{List, [], _∷_, map}
 use Prim.Native.Nat.{ℕ, zero, suc, _+_, _*_, _/_, _%_, _<_, _≤_}
@@ -10,13 +10,13 @@ use lib.Dec.{T, eqb, ltb, ltb→lt}
 use lib.ListN.{length, getD}
 use Rattle.std.specs.Iters.{counting}
 use Rattle.std.proofs.shelf.Counted.{getD-map-counting, length-map-counting}
-use Rattle.std.proofs.shelf.Lists.{getD-past, getD-map}
+use Rattle.std.proofs.shelf.Lists.{getD-past}
 use Rattle.std.proofs.shelf.Tests.{cases-lt, cond-both}
 use Rattle.photon.specs.Bytes.{Bytes}
 use Rattle.photon.specs.Field.{timesZ, timesLow, times, dot}
-use Rattle.photon.specs.Photon.{Square, cell, square, RC, IC, SBox, Serial, addConstant, subCells, shiftRows, transposed, byM, byMs, mixColumnSerial, aRound, rounds, half, squareOf, bytesOf, photon256}
-use Rattle.photon.proofs.Computed.{every, at, allBelow, below}
-use Rattle.photon.proofs.Squares.{cell-square, row-square, square-length, Cells, cells-square}
+use Rattle.photon.specs.Photon.{Square, cell, RC, IC, SBox, Serial, addConstant, subCells, shiftRows, transposed, byM, byMs, mixColumnSerial, aRound, rounds, half, squareOf, bytesOf, photon256}
+use Rattle.photon.proofs.Computed.{every, at, below}
+use Rattle.photon.proofs.Squares.{Cells, cells-square}
 
 -- every number of a list is one of 4 bits; past the list it reads 0
 abbrev pub Small : List ℕ → Type 0

@@ -1,7 +1,7 @@
 -- The shifts and masks of the table engine, as cells. Assumes nothing.
-use mathlib.Core.Path.{_≡_, refl, sym, ap, ap₂, subst, _∙_}
+use mathlib.Core.Path.{_≡_, sym, ap, ap₂, subst, _∙_}
 use mathlib.Core.Bool.{cond}
-use mathlib.Core.List.{List, [], _∷_, map}
+use mathlib.Core.List.{List, [], _∷_}
 use Prim.Native.Nat.{ℕ, zero, suc, _+_, _-_, _*_, _/_, _%_, _^_, _<_, _≤_}
 use native.Mathlib.Nat.{lt-of-lt-of-le}
 use native.Mathlib.Omega.{arith}
@@ -14,7 +14,7 @@ use mir.Val.{Fits}
 use lib.Pow.{pow-add, pow-mono}
 use Rattle.std.proofs.shelf.Bits.{shr-shr, shl-whole}
 use Rattle.std.proofs.shelf.Lists.{drop-more, getD-drop}
-use Rattle.photon.specs.Photon.{Square, cell, half, squareOf}
+use Rattle.photon.specs.Photon.{cell, half, squareOf}
 use Rattle.photon.specs.Table.{packed, columnOf, unpacked, turned}
 use Rattle.photon.proofs.Bounds.{Small, byteOf, half-small, cells-squareOf}
 use Rattle.photon.proofs.Squares.{cell-square}

@@ -1,21 +1,19 @@
 -- Columns as numbers: their cells, and the square that they make. Assumes nothing.
-use mathlib.Core.Path.{_≡_, refl, sym, ap, ap₂, subst, _∙_}
+use mathlib.Core.Path.{_≡_, refl, sym, ap, subst, _∙_}
 use mathlib.Core.Logic.{⊎-elim}
-use mathlib.Core.List.{List, [], _∷_, map}
-use Prim.Native.Nat.{ℕ, zero, suc, _+_, _*_, _/_, _%_, _^_, _<_, _≤_}
+use mathlib.Core.List.{List, [], _∷_}
+use Prim.Native.Nat.{ℕ, zero, suc, _+_, _*_, _/_, _%_, _^_, _<_}
 use native.Mathlib.Nat.{zero-div}
 use native.Mathlib.Omega.{arith}
-use lib.Bits.{bitXor}
 use lib.ListN.{length, getD}
-use Rattle.std.specs.Iters.{counting}
 use Rattle.std.proofs.shelf.Bits.{shr-shr, shr-high}
-use Rattle.std.proofs.shelf.Counted.{getD-map-counting, length-map-counting, fill-by-all}
-use Rattle.std.proofs.shelf.Lists.{getD-past, getD-map}
+use Rattle.std.proofs.shelf.Counted.{getD-map-counting}
+use Rattle.std.proofs.shelf.Lists.{getD-past}
 use Rattle.std.proofs.shelf.Tests.{cases-lt}
-use Rattle.photon.specs.Photon.{Square, cell, square, transposed, byMs, mixColumnSerial, aRound, rounds, squareOf, half}
+use Rattle.photon.specs.Photon.{Square, cell, square, transposed, mixColumnSerial, aRound, rounds, squareOf, half}
 use Rattle.photon.specs.Table.{packed, columnOf, columnsOf, unpacked}
 use Rattle.photon.proofs.Bounds.{Small, cells-squareOf, cells-rounds}
-use Rattle.photon.proofs.Squares.{Cells, cell-square, row-square, square-length, square-ext, cells-square}
+use Rattle.photon.proofs.Squares.{Cells, cell-square, square-ext, cells-square}
 
 -- row i of a packed column
 pub packed-row : (c : List ℕ) → Small c → (i : ℕ) → packed c / 2 ^ (4 * i) % 16 ≡ getD c i 0

@@ -1,14 +1,14 @@
 -- M^8 is linear: it sends the cell by cell XOR of two columns to the XOR of what it makes of each. And so does packing.
 -- Assumes nothing.
-use mathlib.Core.Path.{_≡_, refl, sym, ap, ap₂, subst, _∙_}
+use mathlib.Core.Path.{_≡_, refl, sym, ap, ap₂, _∙_}
 use mathlib.Core.Bool.{Bool, true, false, cond}
 use mathlib.Core.List.{List, [], _∷_, map}
-use Prim.Native.Nat.{ℕ, zero, suc, _+_, _*_, _/_, _%_, _^_, _<_}
+use Prim.Native.Nat.{ℕ, zero, suc, _+_, _*_, _/_, _%_, _<_}
 use native.Mathlib.Omega.{arith}
 use lib.Bits.{bitXor, xor-assoc, xor-comm, xor-block}
-use lib.Dec.{T, eqb, eqb→eq}
+use lib.Dec.{eqb, eqb→eq}
 use lib.Lanes.{zip2}
-use lib.ListN.{length, getD}
+use lib.ListN.{length}
 use Rattle.photon.specs.Field.{timesZ, timesLow, times, dot}
 use Rattle.photon.specs.Photon.{Square, Serial, byM, byMs}
 use Rattle.photon.specs.Table.{packed}

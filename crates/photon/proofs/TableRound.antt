@@ -4,7 +4,7 @@ use mathlib.Core.Path.{_≡_, refl, sym, ap, ap₂, subst, _∙_}
 use mathlib.Core.Bool.{cond}
 use mathlib.Core.Logic.{⊎-elim}
 use mathlib.Core.List.{List, [], _∷_, map}
-use Prim.Native.Nat.{ℕ, zero, suc, _+_, _*_, _/_, _%_, _^_, _<_, _≤_}
+use Prim.Native.Nat.{ℕ, zero, suc, _+_, _*_, _/_, _%_, _^_, _<_}
 use native.Mathlib.Omega.{arith}
 use lib.Bits.{bitXor, xor-assoc, xor-zero-r}
 use lib.Dec.{eqb}
@@ -15,11 +15,11 @@ use Rattle.std.proofs.shelf.Counted.{getD-map-counting, length-map-counting, fi
 use Rattle.std.proofs.shelf.Lanes.{length-zip2}
 use Rattle.std.proofs.shelf.Lists.{getD-past, getD-map, getD-set-same, getD-set-other}
 use Rattle.std.proofs.shelf.Tests.{cases-lt, cases-eq, cond-both, cond-true, cond-false, eq-eqb, ne-eqb}
-use Rattle.photon.specs.Photon.{Square, cell, square, RC, IC, SBox, addConstant, subCells, shiftRows, transposed, byMs, mixColumnSerial, aRound}
+use Rattle.photon.specs.Photon.{Square, cell, RC, IC, SBox, addConstant, subCells, shiftRows, transposed, byMs, mixColumnSerial, aRound}
 use Rattle.photon.specs.Table.{packed, columnOf, columnsOf, unpacked, pair, turned, entryOf, constantOf}
 use Rattle.photon.proofs.Bounds.{Small, small-RC, small-IC, small-SBox, xor-small}
 use Rattle.photon.proofs.Squares.{Cells, cell-square, row-square, square-length, square-ext}
-use Rattle.photon.proofs.TableColumns.{packed-row, length-columnOf, cell-columnOf, cell-unpacked}
+use Rattle.photon.proofs.TableColumns.{packed-row, cell-unpacked}
 use Rattle.photon.proofs.TableLinear.{xors, length-byM, mixed, mixed-xor}
 
 -- ---- M^8, column by column

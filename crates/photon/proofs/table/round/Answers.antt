@@ -2,7 +2,7 @@ use mathlib.Core.Path.{_≡_, ap, _∙_}
 use mathlib.Core.List.{List}
 use native.Mathlib.Omega.{arith}
 use lib.Bits.{bitXor}
-use lib.ListN.{length, getD, set}
+use lib.ListN.{getD, set}
 use Rattle.std.proofs.shelf.Counted.{getD-map-counting}
 use Rattle.photon.specs.Photon.{shiftRows, subCells}
 use Rattle.photon.specs.Table.{columnOf, constantOf, unpacked}
