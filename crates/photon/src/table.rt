@@ -9,7 +9,7 @@ ghost use Rattle.photon.specs.Table.{columnOf, columnsOf, constantOf, entryOf,
 use crate::Engine;
 
 /// Entry 256 t + v is M^8 times the column that has S(low half of v) in row 2t, S(high half of v) in row 2t + 1 and 0
-/// elsewhere.
+/// elsewhere; row i of the product fills bits 4i to 4i + 3.
 const TABLE: [u32; 1024] = [
     0x4427209e,
     0xa2f9b2ff,
@@ -1071,7 +1071,7 @@ fn constants() -> &'static [u32; 12]
     &ROUND
 }
 
-/// Rows 2t and 2t + 1 of column j, once row i is turned by i.
+/// Rows 2t and 2t + 1 of column j, once row i is turned by i: one byte, row 2t in its low half.
 fn index(columns: &[u32; 8], j: usize, t: usize) -> usize
     requires { ⌜ j < 8 ⌝ ∗ ⌜ t < 4 ⌝ }
     ensures value { λ r. ⌜ r ≡ turned (unpacked (now (columns .entry))) j t ⌝ }
@@ -1123,6 +1123,7 @@ fn load_column(state: &[u8; 32], j: usize) -> u32
     column
 }
 
+/// The eight columns of the state.
 fn load(state: &[u8; 32]) -> [u32; 8]
     ensures { λ r. ⌜ r ≡ columnsOf (squareOf (now (state .entry))) ⌝ }
 {
@@ -1133,6 +1134,7 @@ fn load(state: &[u8; 32]) -> [u32; 8]
     columns
 }
 
+/// The bytes of eight columns, written over the state.
 fn store(columns: &[u32; 8], state: &mut [u8; 32])
     ensures { λ _. ⌜ now (state .exit) ≡ bytesOf (unpacked (now (columns .entry))) ⌝ }
 {
