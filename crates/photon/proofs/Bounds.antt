@@ -13,29 +13,26 @@ use Rattle.std.proofs.shelf.Counted.{getD-map-counting, length-map-counting}
 use Rattle.std.proofs.shelf.Lists.{getD-past}
 use Rattle.std.proofs.shelf.Tests.{cases-lt, cond-both}
 use Rattle.photon.specs.Bytes.{Bytes}
+use Rattle.photon.specs.Cells.{Nibbles}
 use Rattle.photon.specs.Field.{timesZ, timesLow, times, dot}
 use Rattle.photon.specs.Photon.{Square, cell, RC, IC, SBox, Serial, addConstant, subCells, shiftRows, transposed, byM, byMs, mixColumnSerial, aRound, rounds, half, squareOf, bytesOf, photon256}
 use Rattle.photon.proofs.Computed.{every, at, below}
 use Rattle.photon.proofs.Squares.{Cells, cells-square}
 
--- every number of a list is one of 4 bits; past the list it reads 0
-abbrev pub Small : List ℕ → Type 0
-Small c = (i : ℕ) → getD c i 0 < 16
-
-pub small-tested : (c : List ℕ) → T (every (λ _ x. ltb x 16) 0 c) → Small c
+pub small-tested : (c : List ℕ) → T (every (λ _ x. ltb x 16) 0 c) → Nibbles c
 small-tested c t i =
     ⊎-elim
     (λ h. ltb→lt (getD c i 0) 16 (at (λ _ x. ltb x 16) c t i h))
     (λ h. subst (λ n. n < 16) (sym (getD-past c i 0 h)) (omega arith))
     (cases-lt i (length c))
 
-pub small-RC : Small RC
+pub small-RC : Nibbles RC
 small-RC = small-tested RC tt
 
-pub small-IC : Small IC
+pub small-IC : Nibbles IC
 small-IC = small-tested IC tt
 
-pub small-SBox : Small SBox
+pub small-SBox : Nibbles SBox
 small-SBox = small-tested SBox tt
 
 pub xor-small : (a b : ℕ) → a < 16 → b < 16 → bitXor a b < 16
@@ -56,21 +53,21 @@ pub times-small : (a b : ℕ) → b < 16 → times a b < 16
 unfolding times
 times-small a b h = timesLow-small 4 a b h
 
-pub dot-small : (r c : List ℕ) → Small c → dot r c < 16
+pub dot-small : (r c : List ℕ) → Nibbles c → dot r c < 16
 dot-small [] c h = omega arith
 dot-small (a ∷ r) [] h = omega arith
 dot-small (a ∷ r) (x ∷ c) h = xor-small (times a x) (dot r c) (times-small a x (h 0)) (dot-small r c (λ i. h (suc i)))
 
-small-dots : (rows : Square) (c : List ℕ) → Small c → Small (map (λ row. dot row c) rows)
+small-dots : (rows : Square) (c : List ℕ) → Nibbles c → Nibbles (map (λ row. dot row c) rows)
 small-dots [] c h i = omega arith
 small-dots (r ∷ rows) c h zero = dot-small r c h
 small-dots (r ∷ rows) c h (suc i) = small-dots rows c h i
 
-pub small-byM : (c : List ℕ) → Small c → Small (byM c)
+pub small-byM : (c : List ℕ) → Nibbles c → Nibbles (byM c)
 unfolding byM
 small-byM c h = small-dots Serial c h
 
-pub small-byMs : (n : ℕ) (c : List ℕ) → Small c → Small (byMs n c)
+pub small-byMs : (n : ℕ) (c : List ℕ) → Nibbles c → Nibbles (byMs n c)
 small-byMs zero c h = h
 small-byMs (suc n) c h = small-byM (byMs n c) (small-byMs n c h)
 
@@ -96,7 +93,7 @@ unfolding transposed
 cells-transposed X h = cells-square (λ i j. cell X j i) (λ i j hi hj. h j i)
 
 -- a square of small rows, each put through a map that keeps them small
-cells-map : (f : List ℕ → List ℕ) (X : Square) → ((c : List ℕ) → Small c → Small (f c)) → Cells X → Cells (map f X)
+cells-map : (f : List ℕ → List ℕ) (X : Square) → ((c : List ℕ) → Nibbles c → Nibbles (f c)) → Cells X → Cells (map f X)
 cells-map f [] k h i j = omega arith
 cells-map f (r ∷ X) k h zero j = k r (h 0) j
 cells-map f (r ∷ X) k h (suc i) j = cells-map f X k (λ i. h (suc i)) i j

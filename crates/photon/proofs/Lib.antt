@@ -1,7 +1,7 @@
 pub mod Bounds
 pub mod Computed
 pub mod Filled
-pub mod Packing
+pub mod Moves
 pub mod Product
 pub mod Squares
 pub mod TableBits

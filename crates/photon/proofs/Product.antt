@@ -1,7 +1,7 @@
 -- The loops that multiply in the field: one digit, or one cell, at a time. Assumes nothing.
 use mathlib.Core.Path.{_≡_, refl, sym, ap, _∙_}
 use mathlib.Core.Bool.{Bool, true, false, cond}
-use mathlib.Core.List.{List, [], _∷_, map}
+use mathlib.Core.List.{List, [], _∷_, _++_}
 use Prim.Native.Nat.{ℕ, suc, _+_, _-_, _/_, _%_, _^_, _≤_, _<_}
 use native.Mathlib.Nat.{div-one}
 use native.Mathlib.Omega.{arith}
@@ -9,13 +9,12 @@ use native.Mathlib.Numerals.{add-one}
 use lib.Bits.{bitXor, xor-assoc, xor-zero-r}
 use lib.Dec.{eqb}
 use lib.ListN.{length, getD, drop}
-use Rattle.std.specs.Iters.{counting}
 use Rattle.std.proofs.shelf.Bits.{shr-shr}
-use Rattle.std.proofs.shelf.Counted.{fill-by-all}
 use Rattle.std.proofs.shelf.Lists.{drop-more}
 use Rattle.photon.specs.Cells.{lastRow}
 use Rattle.photon.specs.Field.{timesZ, timesLow, times, dot}
 use Rattle.photon.specs.Photon.{byM}
+use Rattle.photon.proofs.Moves.{eight, byM-moved}
 
 -- what is summed up and what is left, after k of the four digits of a
 abbrev pub Digits : ℕ → ℕ → ℕ → ℕ → ℕ → Type 0
@@ -55,23 +54,10 @@ cellwise-more r c i sum hr hc e =
     ∙ ap (λ (l : List ℕ). bitXor sum (dot (drop i r) l)) (sym (drop-more c i 0 hc))
     ∙ e
 
--- a column of eight cells, written out
-pub eight : (c : List ℕ) → length c ≡ 8 → c ≡ map (λ k. getD c k 0) (counting 0 8)
-eight c e = fill-by-all (λ k. getD c k 0) c 8 0 e (λ k h. refl)
-
-alone : (a : ℕ) → bitXor (bitXor a 0) 0 ≡ a
-alone a = ap (λ n. bitXor n 0) (xor-zero-r a) ∙ xor-zero-r a
-
--- M moves cells 1 to 7 up by one; its last row gives the new cell 7
-pub moved : (a b c d e f g h : ℕ) → byM (a ∷ b ∷ c ∷ d ∷ e ∷ f ∷ g ∷ h ∷ []) ≡ b ∷ c ∷ d ∷ e ∷ f ∷ g ∷ h ∷ dot lastRow (a ∷ b ∷ c ∷ d ∷ e ∷ f ∷ g ∷ h ∷ []) ∷ []
-unfolding byM times
-moved a b c d e f g h =
-    λ i. alone b i ∷ alone c i ∷ alone d i ∷ alone e i ∷ alone f i ∷ alone g i ∷ alone h i ∷ dot lastRow (a ∷ b ∷ c ∷ d ∷ e ∷ f ∷ g ∷ h ∷ []) ∷ []
-
-pub byM-moves : (c : List ℕ) (last : ℕ) → length c ≡ 8 → last ≡ dot lastRow c
+-- the new column, cell by cell
+pub byM-cells : (c : List ℕ) (last : ℕ) → length c ≡ 8 → last ≡ dot lastRow c
     → getD c 1 0 ∷ getD c 2 0 ∷ getD c 3 0 ∷ getD c 4 0 ∷ getD c 5 0 ∷ getD c 6 0 ∷ getD c 7 0 ∷ last ∷ [] ≡ byM c
-byM-moves c last e h =
-    let same = eight c e in
-    ap (λ (n : ℕ). getD c 1 0 ∷ getD c 2 0 ∷ getD c 3 0 ∷ getD c 4 0 ∷ getD c 5 0 ∷ getD c 6 0 ∷ getD c 7 0 ∷ n ∷ []) (h ∙ ap (dot lastRow) same)
-    ∙ sym (moved (getD c 0 0) (getD c 1 0) (getD c 2 0) (getD c 3 0) (getD c 4 0) (getD c 5 0) (getD c 6 0) (getD c 7 0))
-    ∙ ap byM (sym same)
+byM-cells c last e h =
+    ap (λ (n : ℕ). getD c 1 0 ∷ getD c 2 0 ∷ getD c 3 0 ∷ getD c 4 0 ∷ getD c 5 0 ∷ getD c 6 0 ∷ getD c 7 0 ∷ n ∷ []) h
+    ∙ ap (λ (l : List ℕ). drop 1 l ++ dot lastRow c ∷ []) (sym (eight c e))
+    ∙ sym (byM-moved c e)

@@ -16,7 +16,8 @@ use Rattle.std.proofs.shelf.Bits.{shr-shr, shl-whole}
 use Rattle.std.proofs.shelf.Lists.{drop-more, getD-drop}
 use Rattle.photon.specs.Photon.{cell, half, squareOf}
 use Rattle.photon.specs.Table.{packed, columnOf, unpacked, turned}
-use Rattle.photon.proofs.Bounds.{Small, byteOf, half-small, cells-squareOf}
+use Rattle.photon.specs.Cells.{Nibbles}
+use Rattle.photon.proofs.Bounds.{byteOf, half-small, cells-squareOf}
 use Rattle.photon.proofs.Squares.{cell-square}
 use Rattle.photon.proofs.TableColumns.{length-columnOf, cell-columnOf, cell-unpacked, small-columnOf}
 
@@ -71,7 +72,7 @@ half-is s i j h =
     ∙ ap₂ (λ k m. getD s k 0 / 2 ^ (4 * m) % 16) q r
     ∙ parity (getD s ((8 * i + j) / 2) 0) ((8 * i + j) % 2) (h ((8 * i + j) / 2)) (omega arith)
 
-packed-below : (c : List ℕ) → Small c → packed c < 2 ^ (4 * length c)
+packed-below : (c : List ℕ) → Nibbles c → packed c < 2 ^ (4 * length c)
 packed-below [] h = omega arith
 packed-below (x ∷ c) h =
     let e : 4 * suc (length c) ≡ 4 * length c + 4 = omega arith in
@@ -83,7 +84,7 @@ unfolding squareOf
 cell-squareOf s i j hi hj = cell-square (λ i j. half s (8 * i + j)) i j hi hj
 
 -- the rows from i > 0 on fill 28 bits at most
-below-28 : (c : List ℕ) (i : ℕ) → length c ≡ 8 → 0 < i → Small c → packed (drop i c) < 2 ^ 28
+below-28 : (c : List ℕ) (i : ℕ) → length c ≡ 8 → 0 < i → Nibbles c → packed (drop i c) < 2 ^ 28
 below-28 c i long lo h =
     let le : 4 * length (drop i c) ≤ 28 = omega (arith, length-drop i c) in
     lt-of-lt-of-le (packed-below (drop i c) (λ k. subst (λ n. n < 16) (sym (getD-drop i c k 0)) (h (i + k)))) (pow-mono le)

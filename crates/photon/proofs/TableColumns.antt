@@ -12,11 +12,12 @@ use Rattle.std.proofs.shelf.Lists.{getD-past}
 use Rattle.std.proofs.shelf.Tests.{cases-lt}
 use Rattle.photon.specs.Photon.{Square, cell, square, transposed, mixColumnSerial, aRound, rounds, squareOf, half}
 use Rattle.photon.specs.Table.{packed, columnOf, columnsOf, unpacked}
-use Rattle.photon.proofs.Bounds.{Small, cells-squareOf, cells-rounds}
+use Rattle.photon.specs.Cells.{Nibbles}
+use Rattle.photon.proofs.Bounds.{cells-squareOf, cells-rounds}
 use Rattle.photon.proofs.Squares.{Cells, cell-square, square-ext, cells-square}
 
 -- row i of a packed column
-pub packed-row : (c : List ℕ) → Small c → (i : ℕ) → packed c / 2 ^ (4 * i) % 16 ≡ getD c i 0
+pub packed-row : (c : List ℕ) → Nibbles c → (i : ℕ) → packed c / 2 ^ (4 * i) % 16 ≡ getD c i 0
 packed-row [] h i = ap (λ n. n % 16) (zero-div (2 ^ (4 * i)))
 packed-row (x ∷ c) h zero = let hx : x < 16 = h 0 in omega arith
 packed-row (x ∷ c) h (suc i) =
@@ -33,7 +34,7 @@ pub length-columnOf : (X : Square) (j : ℕ) → length (columnOf X j) ≡ 8
 unfolding columnOf
 length-columnOf X j = refl
 
-pub small-columnOf : (X : Square) (j : ℕ) → Cells X → Small (columnOf X j)
+pub small-columnOf : (X : Square) (j : ℕ) → Cells X → Nibbles (columnOf X j)
 small-columnOf X j h i =
     ⊎-elim
     (λ l. subst (λ n. n < 16) (sym (cell-columnOf X j i l)) (h i j))

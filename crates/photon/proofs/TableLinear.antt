@@ -12,7 +12,8 @@ use lib.ListN.{length}
 use Rattle.photon.specs.Field.{timesZ, timesLow, times, dot}
 use Rattle.photon.specs.Photon.{Square, Serial, byM, byMs}
 use Rattle.photon.specs.Table.{packed}
-use Rattle.photon.proofs.Bounds.{Small, timesZ-small, small-byMs}
+use Rattle.photon.specs.Cells.{Nibbles}
+use Rattle.photon.proofs.Bounds.{timesZ-small, small-byMs}
 use Rattle.photon.proofs.Computed.{allBelow, below}
 
 abbrev pub xors : List ℕ → List ℕ → List ℕ
@@ -49,7 +50,7 @@ times-xor : (a x y : ℕ) → x < 16 → y < 16 → times a (bitXor x y) ≡ bit
 unfolding times
 times-xor a x y hx hy = timesLow-xor 4 a x y hx hy
 
-dot-xor : (r a b : List ℕ) → length a ≡ length b → Small a → Small b → dot r (xors a b) ≡ bitXor (dot r a) (dot r b)
+dot-xor : (r a b : List ℕ) → length a ≡ length b → Nibbles a → Nibbles b → dot r (xors a b) ≡ bitXor (dot r a) (dot r b)
 dot-xor [] a b e ha hb = refl
 dot-xor (k ∷ r) [] [] e ha hb = refl
 dot-xor (k ∷ r) [] (y ∷ b) e ha hb = absurd (omega arith)
@@ -58,11 +59,11 @@ dot-xor (k ∷ r) (x ∷ a) (y ∷ b) e ha hb =
     ap₂ bitXor (times-xor k x y (ha 0) (hb 0)) (dot-xor r a b (omega arith) (λ i. ha (suc i)) (λ i. hb (suc i)))
     ∙ xor-4 (times k x) (times k y) (dot r a) (dot r b)
 
-dots-xor : (rows : Square) (a b : List ℕ) → length a ≡ length b → Small a → Small b → map (λ row. dot row (xors a b)) rows ≡ xors (map (λ row. dot row a) rows) (map (λ row. dot row b) rows)
+dots-xor : (rows : Square) (a b : List ℕ) → length a ≡ length b → Nibbles a → Nibbles b → map (λ row. dot row (xors a b)) rows ≡ xors (map (λ row. dot row a) rows) (map (λ row. dot row b) rows)
 dots-xor [] a b e ha hb = refl
 dots-xor (r ∷ rows) a b e ha hb = ap₂ _∷_ (dot-xor r a b e ha hb) (dots-xor rows a b e ha hb)
 
-byM-xor : (a b : List ℕ) → length a ≡ length b → Small a → Small b → byM (xors a b) ≡ xors (byM a) (byM b)
+byM-xor : (a b : List ℕ) → length a ≡ length b → Nibbles a → Nibbles b → byM (xors a b) ≡ xors (byM a) (byM b)
 unfolding byM
 byM-xor a b e ha hb = dots-xor Serial a b e ha hb
 
@@ -74,13 +75,13 @@ length-byMs : (n : ℕ) (a b : List ℕ) → length a ≡ length b → length (b
 length-byMs zero a b e = e
 length-byMs (suc n) a b e = length-byM (byMs n a) ∙ sym (length-byM (byMs n b))
 
-pub byMs-xor : (n : ℕ) (a b : List ℕ) → length a ≡ length b → Small a → Small b → byMs n (xors a b) ≡ xors (byMs n a) (byMs n b)
+pub byMs-xor : (n : ℕ) (a b : List ℕ) → length a ≡ length b → Nibbles a → Nibbles b → byMs n (xors a b) ≡ xors (byMs n a) (byMs n b)
 byMs-xor zero a b e ha hb = refl
 byMs-xor (suc n) a b e ha hb =
     ap byM (byMs-xor n a b e ha hb)
     ∙ byM-xor (byMs n a) (byMs n b) (length-byMs n a b e) (small-byMs n a ha) (small-byMs n b hb)
 
-pub packed-xor : (a b : List ℕ) → length a ≡ length b → Small a → Small b → packed (xors a b) ≡ bitXor (packed a) (packed b)
+pub packed-xor : (a b : List ℕ) → length a ≡ length b → Nibbles a → Nibbles b → packed (xors a b) ≡ bitXor (packed a) (packed b)
 packed-xor [] [] e ha hb = refl
 packed-xor [] (y ∷ b) e ha hb = absurd (omega arith)
 packed-xor (x ∷ a) [] e ha hb = absurd (omega arith)
@@ -92,7 +93,7 @@ packed-xor (x ∷ a) (y ∷ b) e ha hb =
 abbrev pub mixed : List ℕ → ℕ
 mixed c = packed (byMs 8 c)
 
-pub mixed-xor : (a b : List ℕ) → length a ≡ length b → Small a → Small b → mixed (xors a b) ≡ bitXor (mixed a) (mixed b)
+pub mixed-xor : (a b : List ℕ) → length a ≡ length b → Nibbles a → Nibbles b → mixed (xors a b) ≡ bitXor (mixed a) (mixed b)
 mixed-xor a b e ha hb =
     ap packed (byMs-xor 8 a b e ha hb)
     ∙ packed-xor (byMs 8 a) (byMs 8 b) (length-byMs 8 a b e) (small-byMs 8 a ha) (small-byMs 8 b hb)

@@ -17,7 +17,8 @@ use Rattle.std.proofs.shelf.Lists.{getD-past, getD-map, getD-set-same, getD-set
 use Rattle.std.proofs.shelf.Tests.{cases-lt, cases-eq, cond-both, cond-true, cond-false, eq-eqb, ne-eqb}
 use Rattle.photon.specs.Photon.{Square, cell, RC, IC, SBox, addConstant, subCells, shiftRows, transposed, byMs, mixColumnSerial, aRound}
 use Rattle.photon.specs.Table.{packed, columnOf, columnsOf, unpacked, pair, turned, entryOf, constantOf}
-use Rattle.photon.proofs.Bounds.{Small, small-RC, small-IC, small-SBox, xor-small}
+use Rattle.photon.specs.Cells.{Nibbles}
+use Rattle.photon.proofs.Bounds.{small-RC, small-IC, small-SBox, xor-small}
 use Rattle.photon.proofs.Squares.{Cells, cell-square, row-square, square-length, square-ext}
 use Rattle.photon.proofs.TableColumns.{packed-row, cell-unpacked}
 use Rattle.photon.proofs.TableLinear.{xors, length-byM, mixed, mixed-xor}
@@ -51,7 +52,7 @@ columnOf-mixed Y j h =
 
 -- ---- the constants
 
-small-counted : (f : ℕ → ℕ) → ((i : ℕ) → f i < 16) → Small (map f (counting 0 8))
+small-counted : (f : ℕ → ℕ) → ((i : ℕ) → f i < 16) → Nibbles (map f (counting 0 8))
 small-counted f h i =
     ⊎-elim
     (λ l. subst (λ n. n < 16) (sym (getD-map-counting f 0 8 i i 0 l (omega arith))) (h i))
@@ -121,7 +122,7 @@ high-row X j t h hj ht =
 -- ---- a column as the XOR of one pair of rows for each t
 
 abbrev Column : List ℕ → Type 0
-Column c = (length c ≡ 8) × Small c
+Column c = (length c ≡ 8) × Nibbles c
 
 column-pair : (t v : ℕ) → Column (pair t v)
 unfolding pair
@@ -133,7 +134,7 @@ column-pair t v = (
       (λ e. cond-both (eqb i (2 * t + 1)) (getD SBox (v / 16) 0) 0 (λ n. n < 16) (λ e. small-SBox (v / 16)) (λ e. omega arith))),
 )
 
-small-xors : (a b : List ℕ) → Small a → Small b → Small (xors a b)
+small-xors : (a b : List ℕ) → Nibbles a → Nibbles b → Nibbles (xors a b)
 small-xors [] b ha hb i = omega arith
 small-xors (x ∷ a) [] ha hb i = omega arith
 small-xors (x ∷ a) (y ∷ b) ha hb zero = xor-small x y (ha 0) (hb 0)

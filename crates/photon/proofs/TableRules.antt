@@ -4,46 +4,20 @@ use mathlib.Core.Path.{_≡_, refl, sym, ap, _∙_}
 use mathlib.Core.List.{List, [], _∷_, _++_, map}
 use Prim.Native.Nat.{ℕ, zero, suc, _/_, _%_}
 use native.Mathlib.Omega.{arith}
-use lib.Bits.{xor-zero-r}
 use lib.Dec.{T, eqb, eqb→eq}
-use lib.ListN.{length, getD, drop, length-append, length-drop}
+use lib.ListN.{length, getD, length-append, length-drop}
 use Rattle.std.specs.Iters.{counting}
 use Rattle.std.proofs.shelf.Counted.{fill-by-all}
-use Rattle.photon.specs.Field.{times, dot}
 use Rattle.photon.specs.Photon.{byM, byMs}
 use Rattle.photon.specs.Table.{packed, pair, entryOf}
 use Rattle.photon.proofs.Computed.{every, at}
+use Rattle.photon.proofs.Moves.{moved, byM-moved}
 use Rattle.photon.proofs.Squares.{counted-ext}
 
 -- xs is f 0, f 1, .. where the test passes at each entry
 pub by-rule : (f : ℕ → ℕ) (xs : List ℕ) (n : ℕ) → length xs ≡ n → T (every (λ k x. eqb x (f k)) 0 xs) → xs ≡ map f (counting 0 n)
 by-rule f xs n long test =
     fill-by-all f xs n 0 long (λ k h. eqb→eq (getD xs k 0) (f k) (at (λ k x. eqb x (f k)) xs test k (omega arith)))
-
--- M moves cells 1 to 7 up by one, and makes the last cell of all eight
-abbrev pub moved : List ℕ → List ℕ
-moved c = drop 1 c ++ dot (2 ∷ 4 ∷ 2 ∷ 11 ∷ 2 ∷ 8 ∷ 5 ∷ 6 ∷ []) c ∷ []
-
-times-0 : (x : ℕ) → times 0 x ≡ 0
-unfolding times
-times-0 x = refl
-
-times-1 : (x : ℕ) → times 1 x ≡ x
-unfolding times
-times-1 x = xor-zero-r x
-
-byM-eight : (a b c d e f g h : ℕ) → byM (a ∷ b ∷ c ∷ d ∷ e ∷ f ∷ g ∷ h ∷ []) ≡ moved (a ∷ b ∷ c ∷ d ∷ e ∷ f ∷ g ∷ h ∷ [])
-unfolding byM
-byM-eight a b c d e f g h = simp (times-0, times-1, xor-zero-r)
-
-eight : (c : List ℕ) → length c ≡ 8 → c ≡ map (λ i. getD c i 0) (counting 0 8)
-eight c long = fill-by-all (λ i. getD c i 0) c 8 0 long (λ i h. refl)
-
-byM-moved : (c : List ℕ) → length c ≡ 8 → byM c ≡ moved c
-byM-moved c long =
-    ap byM (eight c long)
-    ∙ byM-eight (getD c 0 0) (getD c 1 0) (getD c 2 0) (getD c 3 0) (getD c 4 0) (getD c 5 0) (getD c 6 0) (getD c 7 0)
-    ∙ ap moved (sym (eight c long))
 
 abbrev pub moves : ℕ → List ℕ → List ℕ
 moves zero c = c
