@@ -1,0 +1,5 @@
+//! What a recipe's bytes say, and whether they may be run.
+mod lines;
+
+pub use lines::Line;
+pub use lines::read_line;

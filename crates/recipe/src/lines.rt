@@ -1,0 +1,111 @@
+//! The lines of a recipe: reading one, and writing one.
+ghost use mathlib.Core.Path.{_≡_};
+ghost use lib.ListN.{length, getD};
+ghost use Rattle.std.specs.Options.{mapped};
+ghost use Rattle.recipe.specs.Lines.{says, given, inRange, printable, allPrintable, whole, afterD, afterM, afterR, readLine};
+
+/// One line of a recipe.
+#[derive(Clone, Copy, PartialEq, Eq, Debug)]
+pub enum Line<'a> {
+    /// `D`: weigh that many grams out of a bin into the trough.
+    Dose { bin: u8, grams: u32 },
+    /// `M`: mix what is in the trough for that long.
+    Mix { seconds: u16 },
+    /// `E`: empty the trough.
+    Empty,
+    /// `R`: a text for the miller; the trough is left alone.
+    Remark(&'a [u8]),
+}
+
+/// Whether a remark may hold the byte.
+fn is_printable(b: u8) -> bool
+    ensures { λ r. ⌜ r ≡ printable b ⌝ }
+{
+    matches!(b, 0x20..=0x7E)
+}
+
+fn all_printable(text: &[u8]) -> bool
+    ensures { λ r. ⌜ r ≡ allPrintable (now (text .entry)) ⌝ }
+{
+    for b in text {
+        if !is_printable(*b) {
+            return false;
+        }
+    }
+    true
+}
+
+impl Line<'_> {
+    /// Whether each field lies in its range.
+    pub fn in_range(&self) -> bool
+        ensures { λ r. ⌜ r ≡ inRange (says (now (self .entry))) ⌝ }
+    {
+        match self {
+            Line::Dose { bin, grams } => matches!(*bin, 1..=32) && matches!(*grams, 1..=2_000_000),
+            Line::Mix { seconds } => matches!(*seconds, 1..=3_600),
+            Line::Empty => true,
+            Line::Remark(text) => matches!(text.len(), 1..=80) && all_printable(text),
+        }
+    }
+}
+
+/// The line and the rest, if the line's fields are in range.
+fn kept<'a>(line: Line<'a>, rest: &'a [u8]) -> Option<(Line<'a>, &'a [u8])>
+    ensures { λ r. ⌜ given r ≡ whole 0 (says (line .entry)) (now (rest .entry)) ⌝ }
+{
+    if line.in_range() {
+        Some((line, rest))
+    } else {
+        None
+    }
+}
+
+fn read_dose(after: &[u8]) -> Option<(Line<'_>, &[u8])>
+    ensures { λ r. ⌜ given r ≡ afterD (now (after .entry)) ⌝ }
+{
+    let [bin, a, b, c, d, rest @ ..] = after else {
+        return None;
+    };
+    let grams = u32::from_le_bytes([*a, *b, *c, *d]);
+    kept(Line::Dose { bin: *bin, grams }, rest)
+}
+
+fn read_mix(after: &[u8]) -> Option<(Line<'_>, &[u8])>
+    ensures { λ r. ⌜ given r ≡ afterM (now (after .entry)) ⌝ }
+{
+    let [a, b, rest @ ..] = after else {
+        return None;
+    };
+    let seconds = u16::from_le_bytes([*a, *b]);
+    kept(Line::Mix { seconds }, rest)
+}
+
+fn read_remark(after: &[u8]) -> Option<(Line<'_>, &[u8])>
+    ensures { λ r. ⌜ given r ≡ afterR (now (after .entry)) ⌝ }
+{
+    let [size, more @ ..] = after else {
+        return None;
+    };
+    let size = usize::from(*size);
+    if more.len() < size {
+        return None;
+    }
+    let (text, rest) = more.split_at(size);
+    kept(Line::Remark(text), rest)
+}
+
+/// Reads one line: the line and the rest of the recipe, or that there is none.
+pub fn read_line(recipe: &[u8]) -> Option<(Line<'_>, &[u8])>
+    ensures { λ r. ⌜ given r ≡ readLine (now (recipe .entry)) ⌝ }
+{
+    let [letter, after @ ..] = recipe else {
+        return None;
+    };
+    match char::from(*letter) {
+        'D' => read_dose(after),
+        'M' => read_mix(after),
+        'E' => kept(Line::Empty, after),
+        'R' => read_remark(after),
+        _ => None,
+    }
+}
