@@ -1,14 +1,19 @@
 -- The lines of a recipe: what a line says, its range, its bytes, and the line that some bytes begin with.
 -- Assumes nothing.
 use mathlib.Core.Bool.{Bool, true, cond, _&&_}
-use mathlib.Core.List.{List, [], _∷_}
+use mathlib.Core.List.{List, [], _∷_, _++_}
+use mathlib.Core.Path.{_≡_}
 use Prim.Native.Nat.{ℕ, _+_, _*_, _/_, _%_}
 use lib.Dec.{eqb, leb}
 use lib.ListN.{length, getD, take, drop}
 use denote.Ref.{now, RefT}
-use Rattle.std.specs.Options.{mapped}
+use Rattle.std.specs.Options.{Cases, mapped}
 use Rattle.std.specs.declared.option.Option.{Option}
 use Rattle.std.specs.declared.option.Option.the-variants.{Some, None}
+use Rattle.std.specs.declared.result.Result.{Result}
+use Rattle.std.specs.declared.result.Result.the-variants.{Ok, Err}
+use Rattle.refusal.specs.declared.Refusal.{Refusal}
+use Rattle.refusal.specs.declared.Refusal.the-variants.{BadLine, BufferTooShort}
 use Rattle.recipe.specs.declared.lines.Line.{Line}
 use Rattle.recipe.specs.declared.lines.Line.the-variants.{Dose, Mix, Empty, Remark}
 
@@ -60,26 +65,52 @@ bytesOf (remark text) = 0x52 ∷ length text ∷ text
 abbrev pub whole : ℕ → Entry → List ℕ → Option (Entry × List ℕ)
 whole n e bs = cond (leb n (length bs) && inRange e) (Some (e, drop n bs)) None
 
--- what follows the letter of a dose, a mix, an empty, a remark
-abbrev pub afterD : List ℕ → Option (Entry × List ℕ)
-afterD bs = whole 5 (dose (getD bs 0 0) (getD bs 1 0 + getD bs 2 0 * 256 + getD bs 3 0 * 65_536 + getD bs 4 0 * 16_777_216)) bs
+-- what the bytes after its letter say of a dose, a mix and a remark
+abbrev pub doseIn : List ℕ → Entry
+doseIn bs = dose (getD bs 0 0) (getD bs 1 0 + getD bs 2 0 * 256 + getD bs 3 0 * 65_536 + getD bs 4 0 * 16_777_216)
 
-abbrev pub afterM : List ℕ → Option (Entry × List ℕ)
-afterM bs = whole 2 (mix (getD bs 0 0 + getD bs 1 0 * 256)) bs
+abbrev pub mixIn : List ℕ → Entry
+mixIn bs = mix (getD bs 0 0 + getD bs 1 0 * 256)
 
-abbrev pub afterR : List ℕ → Option (Entry × List ℕ)
-afterR bs = whole (1 + getD bs 0 0) (remark (take (getD bs 0 0) (drop 1 bs))) bs
+abbrev pub remarkIn : List ℕ → Entry
+remarkIn bs = remark (take (getD bs 0 0) (drop 1 bs))
 
 -- the line that the bytes begin with, and the rest; an unknown letter, a cut line and a field out of range are no line
 abbrev pub readLine : List ℕ → Option (Entry × List ℕ)
 readLine [] = None
 readLine (letter ∷ bs) =
-    cond (eqb letter 0x44) (afterD bs)
-    (cond (eqb letter 0x4D) (afterM bs)
+    cond (eqb letter 0x44) (whole 5 (doseIn bs) bs)
+    (cond (eqb letter 0x4D) (whole 2 (mixIn bs) bs)
     (cond (eqb letter 0x45) (whole 0 empty bs)
-    (cond (eqb letter 0x52) (afterR bs)
+    (cond (eqb letter 0x52) (whole (1 + getD bs 0 0) (remarkIn bs) bs)
     None)))
 
 -- what a reader of lines gives: what the line says, and the rest
 abbrev pub given : Option (Line × RefT (List ℕ)) → Option (Entry × List ℕ)
 given r = mapped (λ x. (says (x .0), now (x .1))) r
+
+-- a line with its fields in range stands in front of rest
+abbrev pub Stands : Entry → List ℕ → List ℕ → Type 0
+Stands e rest bs = (inRange e ≡ true) × (bs ≡ bytesOf e ++ rest)
+
+-- reading tells the line that stands in front, or that none does
+abbrev pub Told : List ℕ → Option (Entry × List ℕ) → Type 0
+Told bs r = Cases r ((e : Entry) (rest : List ℕ) → Stands e rest bs → ⊥) (λ x. Stands (x .0) (x .1) bs)
+
+-- bytes laid over the front of a buffer: the answer, and what the buffer holds then
+abbrev pub covering : List ℕ → List ℕ → Result ℕ Refusal
+covering bs out = cond (leb (length bs) (length out)) (Ok (length bs)) (Err BufferTooShort)
+
+abbrev pub covered : List ℕ → List ℕ → List ℕ
+covered bs out = cond (leb (length bs) (length out)) (bs ++ drop (length bs) out) out
+
+-- a line written into a buffer: the answer, and what the buffer holds then
+abbrev pub writing : Entry → List ℕ → Result ℕ Refusal
+writing e out = cond (inRange e) (covering (bytesOf e) out) (Err (BadLine 0))
+
+abbrev pub written : Entry → List ℕ → List ℕ
+written e out = cond (inRange e) (covered (bytesOf e) out) out
+
+-- the line that was written is the line that is read, and the buffer's other bytes follow it
+abbrev pub ReadBack : Entry → List ℕ → List ℕ → Result ℕ Refusal → Type 0
+ReadBack e before after r = (n : ℕ) → r ≡ Ok n → readLine after ≡ Some (e, drop n before)

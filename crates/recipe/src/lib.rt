@@ -3,3 +3,4 @@ mod lines;
 
 pub use lines::Line;
 pub use lines::read_line;
+pub use lines::write_line;

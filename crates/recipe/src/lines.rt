@@ -1,8 +1,11 @@
 //! The lines of a recipe: reading one, and writing one.
 ghost use mathlib.Core.Path.{_≡_};
+ghost use Prim.Native.Nat.{_+_, _≤_};
 ghost use lib.ListN.{length, getD};
 ghost use Rattle.std.specs.Options.{mapped};
-ghost use Rattle.recipe.specs.Lines.{says, given, inRange, printable, allPrintable, whole, afterD, afterM, afterR, readLine};
+ghost use Rattle.recipe.specs.Lines.{says, given, inRange, printable, allPrintable, whole, doseIn, mixIn, remarkIn, readLine, Told};
+ghost use Rattle.recipe.specs.Lines.{bytesOf, remark, covering, covered, writing, written, ReadBack};
+use refusal::Refusal;
 
 /// One line of a recipe.
 #[derive(Clone, Copy, PartialEq, Eq, Debug)]
@@ -61,7 +64,7 @@ fn kept<'a>(line: Line<'a>, rest: &'a [u8]) -> Option<(Line<'a>, &'a [u8])>
 }
 
 fn read_dose(after: &[u8]) -> Option<(Line<'_>, &[u8])>
-    ensures { λ r. ⌜ given r ≡ afterD (now (after .entry)) ⌝ }
+    ensures { λ r. ⌜ given r ≡ whole 5 (doseIn (now (after .entry))) (now (after .entry)) ⌝ }
 {
     let [bin, a, b, c, d, rest @ ..] = after else {
         return None;
@@ -71,7 +74,7 @@ fn read_dose(after: &[u8]) -> Option<(Line<'_>, &[u8])>
 }
 
 fn read_mix(after: &[u8]) -> Option<(Line<'_>, &[u8])>
-    ensures { λ r. ⌜ given r ≡ afterM (now (after .entry)) ⌝ }
+    ensures { λ r. ⌜ given r ≡ whole 2 (mixIn (now (after .entry))) (now (after .entry)) ⌝ }
 {
     let [a, b, rest @ ..] = after else {
         return None;
@@ -81,7 +84,7 @@ fn read_mix(after: &[u8]) -> Option<(Line<'_>, &[u8])>
 }
 
 fn read_remark(after: &[u8]) -> Option<(Line<'_>, &[u8])>
-    ensures { λ r. ⌜ given r ≡ afterR (now (after .entry)) ⌝ }
+    ensures { λ r. ⌜ given r ≡ whole (1 + getD (now (after .entry)) 0 0) (remarkIn (now (after .entry))) (now (after .entry)) ⌝ }
 {
     let [size, more @ ..] = after else {
         return None;
@@ -96,7 +99,8 @@ fn read_remark(after: &[u8]) -> Option<(Line<'_>, &[u8])>
 
 /// Reads one line: the line and the rest of the recipe, or that there is none.
 pub fn read_line(recipe: &[u8]) -> Option<(Line<'_>, &[u8])>
-    ensures { λ r. ⌜ given r ≡ readLine (now (recipe .entry)) ⌝ }
+    ensures value { λ r. ⌜ given r ≡ readLine (now (recipe .entry)) ⌝ }
+    ensures tells { λ r. ⌜ Told (now (recipe .entry)) (given r) ⌝ }
 {
     let [letter, after @ ..] = recipe else {
         return None;
@@ -107,5 +111,57 @@ pub fn read_line(recipe: &[u8]) -> Option<(Line<'_>, &[u8])>
         'E' => kept(Line::Empty, after),
         'R' => read_remark(after),
         _ => None,
+    }
+}
+
+/// Lays bytes over the front of a buffer, and tells how many.
+fn cover(bytes: &[u8], out: &mut [u8]) -> Result<usize, Refusal>
+    ensures value { λ r. ⌜ r ≡ covering (now (bytes .entry)) (now (out .entry)) ⌝ }
+    ensures after { λ _. ⌜ now (out .exit) ≡ covered (now (bytes .entry)) (now (out .entry)) ⌝ }
+{
+    let size = bytes.len();
+    if out.len() < size {
+        return Err(Refusal::BufferTooShort);
+    }
+    out[0..size].copy_from_slice(bytes);
+    Ok(size)
+}
+
+fn write_remark(text: &[u8], out: &mut [u8]) -> Result<usize, Refusal>
+    requires { ⌜ length (now text) ≤ 80 ⌝ }
+    ensures value { λ r. ⌜ r ≡ covering (bytesOf (remark (now (text .entry)))) (now (out .entry)) ⌝ }
+    ensures after { λ _. ⌜ now (out .exit) ≡ covered (bytesOf (remark (now (text .entry)))) (now (out .entry)) ⌝ }
+{
+    let size = 2 + text.len();
+    if out.len() < size {
+        return Err(Refusal::BufferTooShort);
+    }
+    out[0] = b'R';
+    out[1] = text.len() as u8;
+    out[2..size].copy_from_slice(text);
+    Ok(size)
+}
+
+/// Writes a line's bytes at the front of a buffer, and tells how many.
+/// A field out of range is refused first, then a buffer that is too short; the buffer is left alone then.
+pub fn write_line(line: Line<'_>, out: &mut [u8]) -> Result<usize, Refusal>
+    ensures value { λ r. ⌜ r ≡ writing (says (line .entry)) (now (out .entry)) ⌝ }
+    ensures after { λ _. ⌜ now (out .exit) ≡ written (says (line .entry)) (now (out .entry)) ⌝ }
+    ensures back { λ r. ⌜ ReadBack (says (line .entry)) (now (out .entry)) (now (out .exit)) r ⌝ }
+{
+    if !line.in_range() {
+        return Err(Refusal::BadLine(0));
+    }
+    match line {
+        Line::Dose { bin, grams } => {
+            let [a, b, c, d] = grams.to_le_bytes();
+            cover(&[b'D', bin, a, b, c, d], out)
+        }
+        Line::Mix { seconds } => {
+            let [a, b] = seconds.to_le_bytes();
+            cover(&[b'M', a, b], out)
+        }
+        Line::Empty => cover(b"E", out),
+        Line::Remark(text) => write_remark(text, out),
     }
 }
