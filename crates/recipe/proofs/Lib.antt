@@ -1,2 +1,3 @@
 mod Back
 mod Reading
+mod Walk

@@ -30,6 +30,13 @@ says (Mix seconds) = mix seconds
 says Empty = empty
 says (Remark text) = remark (now text)
 
+-- the grams of a dose; any other line doses nothing
+abbrev pub gramsOf : Entry → ℕ
+gramsOf (dose bin grams) = grams
+gramsOf (mix seconds) = 0
+gramsOf empty = 0
+gramsOf (remark text) = 0
+
 abbrev pub within : ℕ → ℕ → ℕ → Bool
 within low high n = leb low n && leb n high
 

@@ -3,7 +3,7 @@ ghost use mathlib.Core.Path.{_≡_};
 ghost use Prim.Native.Nat.{_+_, _≤_};
 ghost use lib.ListN.{length, getD};
 ghost use Rattle.std.specs.Options.{mapped};
-ghost use Rattle.recipe.specs.Lines.{says, given, inRange, printable, allPrintable, whole, doseIn, mixIn, remarkIn, readLine, Told};
+ghost use Rattle.recipe.specs.Lines.{says, gramsOf, given, inRange, printable, allPrintable, whole, doseIn, mixIn, remarkIn, readLine, Told};
 ghost use Rattle.recipe.specs.Lines.{bytesOf, remark, covering, covered, writing, written, ReadBack};
 use refusal::Refusal;
 
@@ -48,6 +48,28 @@ impl Line<'_> {
             Line::Mix { seconds } => matches!(*seconds, 1..=3_600),
             Line::Empty => true,
             Line::Remark(text) => matches!(text.len(), 1..=80) && all_printable(text),
+        }
+    }
+
+    /// The letter that the line begins with.
+    pub fn letter(&self) -> char
+        ensures { λ r. ⌜ r ≡ getD (bytesOf (says (now (self .entry)))) 0 0 ⌝ }
+    {
+        match self {
+            Line::Dose { .. } => 'D',
+            Line::Mix { .. } => 'M',
+            Line::Empty => 'E',
+            Line::Remark(_) => 'R',
+        }
+    }
+
+    /// The grams of a dose; 0 for any other line.
+    pub fn grams(&self) -> u32
+        ensures { λ r. ⌜ r ≡ gramsOf (says (now (self .entry))) ⌝ }
+    {
+        match self {
+            Line::Dose { grams, .. } => *grams,
+            _ => 0,
         }
     }
 }
