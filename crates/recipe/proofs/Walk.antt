@@ -58,7 +58,7 @@ held-bad [] h p = absurd (omega arith)
 held-bad (b ∷ bs) h p = ap (from (length bs)) p
 
 -- the verdict of a first fault, if there is one
-abbrev ruled : Option Refusal → List Entry → Result Lawful Refusal
+abbrev pub ruled : Option Refusal → List Entry → Result Lawful Refusal
 ruled r es = elim r [ None ↦ weighed es | Some f ↦ Err f ]
 
 -- the judge stands before rest: what rest holds decides the verdict
@@ -78,16 +78,16 @@ started recipe =
       weighs = omega arith;
     }
 
-not-empty : (place : ℕ) (phase : Phase) → (phase ≡ Empty → ⊥) → endFault place phase ≡ Some (WrongPhase place)
+pub not-empty : (place : ℕ) (phase : Phase) → (phase ≡ Empty → ⊥) → endFault place phase ≡ Some (WrongPhase place)
 not-empty place Empty n = absurd (n refl)
 not-empty place Filled n = refl
 not-empty place Mixed n = refl
 
 -- what a step leaves to the lines after it
-abbrev stepped : ℕ → ℕ → Held → Option Phase → Option Refusal
+abbrev pub stepped : ℕ → ℕ → Held → Option Phase → Option Refusal
 stepped place size h r = elim r [ None ↦ Some (WrongPhase place) | Some after ↦ fault after (place + size) h ]
 
-module _ (recipe rest : List ℕ) (phase : Phase) (lines grams : ℕ) (w : Walked recipe rest phase lines grams) where
+module _ {recipe rest : List ℕ} {phase : Phase} {lines grams : ℕ} (w : Walked recipe rest phase lines grams) where
   pub walks : (e : Entry) (after : List ℕ) (to : Phase) → readLine rest ≡ Some (e, after) → stepOf phase e ≡ Some to → (sum : ℕ) → sum ≡ min (grams + gramsOf e) 4_294_967_295 → Walked recipe after to (lines + 1) sum
   walks e after to p q sum r =
       let h = held-next rest (e, after) p in

@@ -1,5 +1,6 @@
 //! The judge of a recipe.
 ghost use mathlib.Core.Path.{_≡_};
+ghost use Rattle.recipe.specs.Laws.{Judged};
 ghost use Rattle.recipe.specs.Verdict.{verdict};
 use crate::lines::read_line;
 use crate::trough::Phase;
@@ -19,7 +20,8 @@ pub struct Lawful {
 /// Judges a recipe: what is lawful in it, or its first fault from the left.
 /// The total is looked at last, so the running sum may stop at its type's end.
 pub fn judge(recipe: &[u8]) -> Result<Lawful, Refusal>
-    ensures { λ r. ⌜ r ≡ verdict (now (recipe .entry)) ⌝ }
+    ensures value { λ r. ⌜ r ≡ verdict (now (recipe .entry)) ⌝ }
+    ensures laws { λ r. ⌜ Judged (now (recipe .entry)) r ⌝ }
 {
     let mut rest = recipe;
     let mut phase = Phase::Empty;

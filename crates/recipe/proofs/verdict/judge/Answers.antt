@@ -8,6 +8,7 @@ use Rattle.std.proofs.shelf.Tests.{false≢true, true≢false}
 use Rattle.recipe.specs.declared.trough.Phase.the-variants.{Empty}
 use Rattle.recipe.specs.Lines.{says}
 use Rattle.recipe.proofs.Back.{read-length}
+use Rattle.recipe.proofs.Law.{judged}
 use Rattle.recipe.proofs.Walk.{some-bytes, walks, bad-here, wrong-here, not-emptied, too-heavy, all-lawful}
 use Rattle.recipe.proofs.verdict.judge.Needs as need
 
@@ -17,8 +18,7 @@ loop-rest-less c =
 
 pub loop-rest-again : need.loop-rest-again
 loop-rest-again c =
-    walks (c .args .recipe .now) (c .loop-rest .rest .now) (c .loop-rest .phase) (c .loop-rest .lines) (c .loop-rest .grams) (c .loop-rest .inv)
-    (says (c .in-Some .line)) (c .in-Some .after .now) (c .in-Some-step .next) (sym (c .in-Some .ensures tt .value)) (sym (c .in-Some-step .ensures tt))
+    walks (c .loop-rest .inv) (says (c .in-Some .line)) (c .in-Some .after .now) (c .in-Some-step .next) (sym (c .in-Some .ensures tt .value)) (sym (c .in-Some-step .ensures tt))
     _ (c .saturating-add-grams .ensures ∙ ap (λ g. min (c .loop-rest .grams + g) 4_294_967_295) (c .grams .ensures))
 
 -- what `!=` at two phases says
@@ -32,28 +32,28 @@ other P false h p = h
 
 pub returns-in-rest : need.returns-in-rest
 returns-in-rest c =
-    bad-here (c .args .recipe .now) (c .loop-rest .rest .now) (c .loop-rest .phase) (c .loop-rest .lines) (c .loop-rest .grams) (c .loop-rest .inv)
-    (omega (arith, false-eqb (length (c .loop-rest .rest .now)) 0 (c .loop-rest-test .ensures tt))) (sym (c .in-rest .ensures tt .value))
+    let v = bad-here (c .loop-rest .inv) (omega (arith, false-eqb (length (c .loop-rest .rest .now)) 0 (c .loop-rest-test .ensures tt))) (sym (c .in-rest .ensures tt .value)) in
+    record { value = v; laws = judged (c .args .recipe .now) _ (λ i. c .typed .recipe i .fits) v }
 
 pub returns-in-rest-step : need.returns-in-rest-step
 returns-in-rest-step c =
-    wrong-here (c .args .recipe .now) (c .loop-rest .rest .now) (c .loop-rest .phase) (c .loop-rest .lines) (c .loop-rest .grams) (c .loop-rest .inv)
-    (says (c .in-Some .line)) (c .in-Some .after .now) (sym (c .in-Some .ensures tt .value)) (sym (c .in-rest-step .ensures tt))
+    let v = wrong-here (c .loop-rest .inv) (says (c .in-Some .line)) (c .in-Some .after .now) (sym (c .in-Some .ensures tt .value)) (sym (c .in-rest-step .ensures tt)) in
+    record { value = v; laws = judged (c .args .recipe .now) _ (λ i. c .typed .recipe i .fits) v }
 
 pub returns-then-ne : need.returns-then-ne
 returns-then-ne c =
     let e = c .if-ne .ensures tt in
-    not-emptied (c .args .recipe .now) (c .loop-rest .rest .now) (c .loop-rest .phase) (c .loop-rest .lines) (c .loop-rest .grams) (c .loop-rest .inv)
-    (true-eqb (length (c .loop-rest .rest .now)) 0 (c .loop-rest-test .ensures tt)) (other (c .loop-rest .phase ≡ Empty) (e .0) (e .1) (e .2))
+    let v = not-emptied (c .loop-rest .inv) (true-eqb (length (c .loop-rest .rest .now)) 0 (c .loop-rest-test .ensures tt)) (other (c .loop-rest .phase ≡ Empty) (e .0) (e .1) (e .2)) in
+    record { value = v; laws = judged (c .args .recipe .now) _ (λ i. c .typed .recipe i .fits) v }
 
 pub returns-then-grams-gt-MOST-GRAMS : need.returns-then-grams-gt-MOST-GRAMS
 returns-then-grams-gt-MOST-GRAMS c =
     let e = c .if-ne .ensures tt in
-    too-heavy (c .args .recipe .now) (c .loop-rest .rest .now) (c .loop-rest .phase) (c .loop-rest .lines) (c .loop-rest .grams) (c .loop-rest .inv)
-    (true-eqb (length (c .loop-rest .rest .now)) 0 (c .loop-rest-test .ensures tt)) (same (c .loop-rest .phase ≡ Empty) (e .0) (e .1) (e .2)) (c .if-grams-gt-MOST-GRAMS .taken)
+    let v = too-heavy (c .loop-rest .inv) (true-eqb (length (c .loop-rest .rest .now)) 0 (c .loop-rest-test .ensures tt)) (same (c .loop-rest .phase ≡ Empty) (e .0) (e .1) (e .2)) (c .if-grams-gt-MOST-GRAMS .taken) in
+    record { value = v; laws = judged (c .args .recipe .now) _ (λ i. c .typed .recipe i .fits) v }
 
 pub returns : need.returns
 returns c =
     let e = c .if-ne .ensures tt in
-    all-lawful (c .args .recipe .now) (c .loop-rest .rest .now) (c .loop-rest .phase) (c .loop-rest .lines) (c .loop-rest .grams) (c .loop-rest .inv)
-    (true-eqb (length (c .loop-rest .rest .now)) 0 (c .loop-rest-test .ensures tt)) (same (c .loop-rest .phase ≡ Empty) (e .0) (e .1) (e .2)) (c .if-grams-gt-MOST-GRAMS .left)
+    let v = all-lawful (c .loop-rest .inv) (true-eqb (length (c .loop-rest .rest .now)) 0 (c .loop-rest-test .ensures tt)) (same (c .loop-rest .phase ≡ Empty) (e .0) (e .1) (e .2)) (c .if-grams-gt-MOST-GRAMS .left) in
+    record { value = v; laws = judged (c .args .recipe .now) _ (λ i. c .typed .recipe i .fits) v }
