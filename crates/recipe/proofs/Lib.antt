@@ -1,0 +1,4 @@
+mod Back
+mod Law
+mod Reading
+mod Walk
