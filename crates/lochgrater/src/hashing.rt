@@ -1,5 +1,6 @@
 //! `lochgrater hash FILE..`: a line for each file, digest, two spaces, name.
 use crate::Status;
+use crate::fail;
 use crate::input::read_up_to;
 use beetle::DIGEST_BYTES;
 use beetle::LONGEST_TEXT;
@@ -25,15 +26,11 @@ fn hash_file(rt: &LibcRuntime, name: &str) -> Result<Status, AnyError> {
     // One byte more than a text may have: a longer file is then refused as it should be.
     let text = match read_up_to(rt, name, LONGEST_TEXT as u64 + 1) {
         Ok(text) => text,
-        Err(e) => {
-            eprintln!(rt, "lochgrater: {name}: {e}")?;
-            return Ok(Status::Failed);
-        }
+        Err(e) => return fail(rt, name, e),
     };
     let mut digest = [0; DIGEST_BYTES];
     if let Err(refusal) = beetle::hash(&TableEngine, text.as_slice(), &mut digest) {
-        eprintln!(rt, "lochgrater: {name}: {refusal}")?;
-        return Ok(Status::Failed);
+        return fail(rt, name, refusal);
     }
     let shown = hex::encode(rt.alloc(), &digest)?;
     println!(rt, "{shown}  {name}")?;

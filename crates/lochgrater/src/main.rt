@@ -1,18 +1,32 @@
 //! The program: thin, everything that matters is in the libraries.
 mod hashing;
 mod input;
+mod judging;
+mod output;
+mod plain;
 mod speed;
 
 use std::env;
 use std::error::AnyError;
+use std::fmt::Display;
 
 const VERSION: &str = "lochgrater 0.1.0";
 
 const HELP: &str = "usage: lochgrater COMMAND
-  hash FILE..   print the PHOTON-Beetle digest of each file, '-' for standard input
-  speed         time the engines against each other
-  help          print this text
-  version       print the program's version";
+  hash FILE..          print the PHOTON-Beetle digest of each file
+  judge FILE           print a recipe line by line, or why it may not be run
+  recipe TEXT OUT      make a recipe's bytes of such lines, without the places
+  cipher seal WORDS IN OUT   seal a file with the raw cipher
+  cipher open WORDS IN OUT   open a sealed file
+  speed                time the engines against each other
+  help                 print this text
+  version              print the program's version
+A FILE, IN or OUT of '-' is standard input or output.
+WORDS of cipher:
+  --rate 128|32
+  --key HEX | --key-file FILE     16 bytes
+  --nonce HEX                     16 bytes
+  --ad HEX | --ad-file FILE       associated data, none if left out";
 
 /// How a command ended. What failed has been said on standard error by then.
 #[derive(Clone, Copy)]
@@ -30,12 +44,20 @@ fn usage(rt: &LibcRuntime) -> Result<Status, AnyError> {
     Ok(Status::Failed)
 }
 
+/// Says what went wrong with the file `name`.
+fn fail(rt: &LibcRuntime, name: &str, why: impl Display + Drop) -> Result<Status, AnyError> {
+    eprintln!(rt, "lochgrater: {name}: {why}")?;
+    Ok(Status::Failed)
+}
+
 fn run(rt: &LibcRuntime, words: &[String]) -> Result<Status, AnyError> {
     let Some((command, names)) = words.split_first() else {
         return usage(rt);
     };
     match command.as_str() {
         "hash" => hashing::hash_files(rt, names),
+        "judge" => judging::judge(rt, names),
+        "recipe" => judging::make(rt, names),
         "speed" => speed::compare(rt),
         "help" => {
             println!(rt, "{HELP}")?;
