@@ -50,6 +50,8 @@ pub fn parse(text: &str) -> Option<Line<'_>> {
 #[cfg(test)]
 mod tests {
     use super::*;
+    use recipe::LineDebug;
+    use recipe::LinePartialEq;
     use std::test::*;
 
     // What prints of a line is read back as that line.
