@@ -1,10 +1,11 @@
 -- A text cut into blocks: a first block and the rest. Assumes nothing.
-use mathlib.Core.Path.{_≡_, refl, sym, ap, _∙_}
+use mathlib.Core.Path.{_≡_, refl, sym, ap, subst, _∙_}
 use mathlib.Core.List.{List, [], _∷_, _++_}
 use Prim.Native.Nat.{ℕ, zero, suc, min, _-_, _<_, _≤_}
 use native.Mathlib.Omega.{arith}
 use lib.ListN.{length, take, drop, length-drop}
-use Rattle.beetle.specs.Blocks.{xored, padded, blocksUpTo, blocks, absorbedBlocks, absorbed}
+use Rattle.std.proofs.shelf.Tests.{cond-both}
+use Rattle.beetle.specs.Blocks.{ending, xored, padded, blocksUpTo, blocks, absorbedBlocks, absorbed}
 
 -- any bound that suffices gives the same blocks
 enough : (m n r : ℕ) (D : List ℕ) → length D ≤ m → length D ≤ n → 0 < r → blocksUpTo m r D ≡ blocksUpTo n r D
@@ -51,3 +52,8 @@ drop-min (suc r) [] = ap (λ (n : ℕ). drop {A = ℕ} n []) (let e : min (suc r
 drop-min (suc r) (x ∷ D) =
     let e : min (suc r) (suc (length D)) ≡ suc (min r (length D)) = omega arith in
     ap (λ n. drop n (x ∷ D)) e ∙ drop-min r D
+
+-- the constant after a text is one of the two
+pub ending-below : (r : ℕ) (D : List ℕ) (whole cut c n : ℕ) → c ≡ ending r D whole cut → whole < n → cut < n → c < n
+unfolding ending
+ending-below r D whole cut c n e h k = subst (λ m. m < n) (sym e) (cond-both _ whole cut (λ m. m < n) (λ _. h) (λ _. k))

@@ -1,3 +1,9 @@
 pub mod Xors
 pub mod Cuts
 pub mod Taken
+pub mod Shuffles
+pub mod Passes
+pub mod Differing
+pub mod Ends
+pub mod Smalls
+pub mod Undoing

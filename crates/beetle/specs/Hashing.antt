@@ -2,13 +2,12 @@
 -- Assumes nothing.
 use mathlib.Core.Bool.{cond}
 use mathlib.Core.List.{List, [], _∷_, _++_}
-use Prim.Native.Nat.{ℕ, _≤_}
+use Prim.Native.Nat.{ℕ}
 use lib.Dec.{eqb, ltb, leb}
 use lib.ListN.{length, take, drop, replicate}
-use Rattle.std.specs.declared.result.Result.{Result}
 use Rattle.std.specs.declared.result.Result.the-variants.{Ok, Err}
-use Rattle.refusal.specs.declared.Refusal.{Refusal}
 use Rattle.refusal.specs.declared.Refusal.the-variants.{TextTooLong, OutputTooShort}
+use Rattle.beetle.specs.Outcomes.{Outcome, outcome, tooLong}
 use Rattle.beetle.specs.Blocks.{padded, added, ending, absorbed}
 
 -- 16 bytes after one P and 16 after a second
@@ -27,17 +26,9 @@ taken P M =
 unfoldable pub digest : (List ℕ → List ℕ) → List ℕ → List ℕ
 digest P M = squeezed P (taken P M)
 
--- what a call answers, and what its output buffer holds afterwards
-pub record Outcome : Type 0 where
-  pub answer : Result (Unit {0}) Refusal
-  pub buffer : List ℕ
-
-abbrev pub outcome : Result (Unit {0}) Refusal → List ℕ → Outcome
-outcome a b = record { answer = a; buffer = b }
-
 -- hashing the text M into a buffer that holds B
 unfoldable pub hashOutcome : (List ℕ → List ℕ) → List ℕ → List ℕ → Outcome
 hashOutcome P M B =
-    cond (ltb 65536 (length M)) (outcome (Err TextTooLong) B)
+    cond (tooLong (length M)) (outcome (Err TextTooLong) B)
     (cond (ltb (length B) 32) (outcome (Err OutputTooShort) B)
     (outcome (Ok tt) (digest P M ++ drop 32 B)))

@@ -50,9 +50,6 @@ pub(crate) fn add_constant(state: &mut [u8; 32], c: u8)
 pub(crate) fn ending_constant<R: Rate>(text: &[u8], whole: u8, cut: u8) -> u8
     ensures { λ c. ⌜ c ≡ ending (R·Rate .r) (now (text .entry)) whole cut ⌝ }
 {
-    if text.len() % R::bytes() == 0 {
-        whole
-    } else {
-        cut
-    }
+    let r = R::bytes();
+    if text.len() % r == 0 { whole } else { cut }
 }

@@ -6,18 +6,14 @@ use Prim.Native.Nat.{ℕ, _<_, _≤_}
 use lib.Dec.{ltb}
 use lib.ListN.{length, take, drop, replicate, length-drop}
 use lib.Seq.{take-all, length-take-le}
-use Rattle.std.proofs.shelf.Tests.{eqb-true, eqb-false, lt-ltb, le-ltb, cond-true, cond-false, cond-both}
+use Rattle.std.proofs.shelf.Tests.{eqb-true, eqb-false, lt-ltb, le-ltb, cond-true, cond-false}
 use Rattle.beetle.specs.Blocks.{xored, padded, added, ending, absorbed}
 use Rattle.beetle.specs.Hashing.{taken}
 use Rattle.beetle.proofs.Xors.{padded-full}
+use Rattle.beetle.proofs.Cuts.{ending-below}
 use Rattle.beetle.proofs.Taken.{taken-empty, taken-short, taken-long}
 use Rattle.beetle.proofs.hashing.take_in.Needs as need
 use Rattle.beetle.proofs.hashing.take_in.Needs.{then-head-lt16, else-head-lt16}
-
--- the constant is 1 or 2
-small : (r : ℕ) (D : List ℕ) → ending r D 1 2 < 8
-unfolding ending
-small r D = cond-both _ 1 2 (λ n. n < 8) (λ _. omega arith) (λ _. omega arith)
 
 pub returns-then-is-empty : need.returns-then-is-empty
 returns-then-is-empty g c =
@@ -26,7 +22,7 @@ returns-then-is-empty g c =
 
 pub add-constant-requires-else-is-empty-2 : need.add-constant-requires-else-is-empty-2
 add-constant-requires-else-is-empty-2 g c κs =
-    let s = small 4 (c .first-block .result .1 .now) in omega (arith, c .ending-constant .ensures)
+    ending-below _ _ _ _ (c .ending-constant .result) 8 (c .ending-constant .ensures) (omega arith) (omega arith)
 
 pub returns-after-head-lt16 : need.returns-after-head-lt16
 returns-after-head-lt16 g c =
