@@ -1,4 +1,5 @@
 //! The program: thin, everything that matters is in the libraries.
+mod cipher;
 mod hashing;
 mod input;
 mod judging;
@@ -58,6 +59,7 @@ fn run(rt: &LibcRuntime, words: &[String]) -> Result<Status, AnyError> {
         "hash" => hashing::hash_files(rt, names),
         "judge" => judging::judge(rt, names),
         "recipe" => judging::make(rt, names),
+        "cipher" => cipher::run(rt, names),
         "speed" => speed::compare(rt),
         "help" => {
             println!(rt, "{HELP}")?;

@@ -1,12 +1,17 @@
 //! Runs test vectors in the layout of the designers' known-answer files: blocks of lines `NAME = VALUE`, a blank line after each.
 mod hashes;
 mod layout;
+mod sealings;
 
+use beetle::Rate32;
+use beetle::Rate32Rate;
+use beetle::Rate128;
+use beetle::Rate128Rate;
 use std::env;
 use std::error::AnyError;
 use std::fs;
 
-const HELP: &str = "usage: vectors hash FILE ..";
+const HELP: &str = "usage: vectors KIND FILE ..  (KIND: hash, seal128, seal32)";
 
 /// Runs every vector of a file, and names those that disagree.
 fn run_file(rt: &LibcRuntime, kind: &str, name: &str) -> Result<bool, AnyError> {
@@ -14,6 +19,8 @@ fn run_file(rt: &LibcRuntime, kind: &str, name: &str) -> Result<bool, AnyError> 
     let vectors = layout::parse(rt.alloc(), text.as_str())?;
     match kind {
         "hash" => hashes::run(rt, name, vectors.as_slice()),
+        "seal128" => sealings::run::<Rate128>(rt, name, vectors.as_slice()),
+        "seal32" => sealings::run::<Rate32>(rt, name, vectors.as_slice()),
         _ => Err(HELP.into()),
     }
 }
