@@ -7,3 +7,4 @@ pub mod Differing
 pub mod Ends
 pub mod Smalls
 pub mod Undoing
+pub mod Digests

@@ -89,7 +89,7 @@ pub bytes-absorbed : (P : List ℕ → List ℕ) (r : ℕ) (S D : List ℕ) → 
 bytes-absorbed P r S D st p h k = absorbed-upto P r (length D) S D st p (omega arith) h k
 
 -- the constants
-ending-small : (r : ℕ) (D : List ℕ) (whole cut : ℕ) → whole < 8 → cut < 8 → ending r D whole cut < 8
+pub ending-small : (r : ℕ) (D : List ℕ) (whole cut : ℕ) → whole < 8 → cut < 8 → ending r D whole cut < 8
 ending-small r D whole cut h k = ending-below r D whole cut (ending r D whole cut) 8 refl h k
 
 pub c0-small : (r : ℕ) (A M : List ℕ) → c0 r A M < 8

@@ -20,7 +20,7 @@ use Rattle.beetle.specs.Blocks.{xored, padded, blocks, added, ending, absorbed
 use Rattle.beetle.specs.Mode.{Passed, shuffled, masked, rho, rhoBack, passed, c0, c1, begun, ended, empty, tag}
 use Rattle.beetle.specs.Sealing.{sealing, sealed}
 use Rattle.beetle.specs.Opening.{messageLength, ciphertext, tagIn, opening, tagOf, opened}
-use Rattle.beetle.specs.Laws.{Stays, Lawful, Small, SealedOpens, OpenedWasSealed, OpensByItsTag, Laws}
+use Rattle.beetle.specs.Laws.{Stays, Lawful, Small, SealedOpens, OpenedWasSealed, OpensByItsTag, SealedLength, OpenedLength, Laws}
 use Rattle.beetle.proofs.Xors.{length-xored}
 use Rattle.beetle.proofs.Differing.{xor-back}
 use Rattle.beetle.proofs.Shuffles.{length-shuffled}
@@ -221,5 +221,37 @@ opened-was-sealed P r K N A C M st law k n a c o =
     ∙ ap (λ l. V ++ l) (told .1)
     ∙ sym (λ i. again i .text ++ made i)
 
+pub sealed-length : SealedLength
+unfolding sealed sealing tag
+sealed-length P r K N A M st law k n a m =
+    let least = law .least in
+    let S₀ = begun P r K N A M in
+    let s₀ : Bytes 32 S₀ = bytes-begun P r K N A M st (omega arith) k n a in
+    let p = through P (rho r) r S₀ M in
+    let done = kept r law P st (rho r) (rhoBack r) (back-undoes r law) S₀ M s₀ m in
+    let last = st (ended r A M (p .state)) (bytes-ended r A M (p .state) (done .state)) .long in
+    let t : length (take 16 (P (ended r A M (p .state)))) ≡ 16 = length-take-le 16 (P (ended r A M (p .state))) (omega arith) in
+    length-append (p .text) (take 16 (P (ended r A M (p .state)))) ∙ (λ i. done .size i + t i)
+
+pub opened-length : OpenedLength
+unfolding opening
+opened-length P r K N A C M st law k n a c o =
+    let least = law .least in
+    let told = opens-by-its-tag P r K N A C .1 M o in
+    let V = ciphertext C in
+    let S₀ = begun P r K N A V in
+    let s₀ : Bytes 32 S₀ = bytes-begun P r K N A V st (omega arith) k n a in
+    let done = kept r law P st (rhoBack r) (rho r) (forth-undoes r law) S₀ V s₀ (small-take (messageLength C) C c) in
+    let size : length M ≡ length V = ap length (sym (told .2)) ∙ done .size in
+    let front = length-take (messageLength C) C in
+    let fits = told .0 in
+    omega arith
+
 pub laws : Laws
-laws = record { opens = sealed-opens; sealed = opened-was-sealed; by-tag = opens-by-its-tag }
+laws = record {
+  opens = sealed-opens;
+  sealed = opened-was-sealed;
+  by-tag = opens-by-its-tag;
+  sealed-length = sealed-length;
+  opened-length = opened-length;
+}

@@ -4,6 +4,7 @@ ghost use mathlib.Core.Path.{_≡_};
 ghost use mathlib.Core.List.{_++_};
 ghost use lib.ListN.{length, drop};
 ghost use Rattle.beetle.specs.Hashing.{taken, squeezed, hashOutcome};
+ghost use Rattle.beetle.specs.Laws.{DigestBytes};
 use crate::absorbing::absorb;
 use crate::blocks::add_constant;
 use crate::blocks::ending_constant;
@@ -59,6 +60,7 @@ fn squeeze<E: Engine>(engine: &E, mut first: [u8; 32], out: &mut [u8])
 pub fn hash<E: Engine>(engine: &E, text: &[u8], out: &mut [u8]) -> Result<(), Refusal>
     ensures answer { λ a. ⌜ a ≡ hashOutcome (E·Engine .permutes (now (engine .entry))) (now (text .entry)) (now (out .entry)) .answer ⌝ }
     ensures buffer { λ _. ⌜ now (out .exit) ≡ hashOutcome (E·Engine .permutes (now (engine .entry))) (now (text .entry)) (now (out .entry)) .buffer ⌝ }
+    ensures whole { λ _. ⌜ DigestBytes ⌝ }
 {
     if text.len() > LONGEST_TEXT {
         return Err(Refusal::TextTooLong);
