@@ -1,7 +1,7 @@
 -- A line's bytes and the line that is read from them. Assumes nothing.
-use mathlib.Core.Path.{_≡_, refl, sym, ap, subst, _∙_}
+use mathlib.Core.Path.{_≡_, refl, sym, ap, _∙_}
 use mathlib.Core.List.{List, [], _∷_, _++_}
-use mathlib.Core.Bool.{Bool, true, false, cond, _&&_}
+use mathlib.Core.Bool.{true, cond, _&&_}
 use mathlib.Core.Logic.{_⊎_, inl, inr, ⊎-elim}
 use Prim.Native.Nat.{ℕ, suc, _+_, _*_, _/_, _%_, _≤_, _<_, zero-le}
 use native.Mathlib.Numerals.{add-one}
@@ -163,7 +163,7 @@ pub told : (bs : List ℕ) (r : Option (Entry × List ℕ)) → ((i : ℕ) → g
 told bs None b p = λ e rest h. none-some (e, rest) (p ∙ ap readLine (h .1) ∙ read-back e rest (h .0))
 told bs (Some x) b p = sound bs x b (sym p)
 
-ok-err : {X Y : Type 0} (x : X) (y : Y) → Err y ≡ Ok x → ⊥
+pub ok-err : {X Y : Type 0} (x : X) (y : Y) → Err y ≡ Ok x → ⊥
 ok-err x y p = let z : _≡_ {A = ℕ} 0 1 = cc in omega arith
 
 -- what is written in a buffer with room

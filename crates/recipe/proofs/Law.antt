@@ -1,8 +1,7 @@
 -- The verdict by lists of lines. Assumes nothing.
 use mathlib.Core.Path.{_≡_, refl, sym, ap, subst, subst₂, _∙_}
-use mathlib.Core.Bool.{true, false, cond}
+use mathlib.Core.Bool.{true}
 use mathlib.Core.List.{List, [], _∷_, _++_, append-nil, append-assoc}
-use mathlib.Core.Logic.{⊎-elim}
 use Prim.Native.Nat.{ℕ, zero, suc, _+_, _≤_, _<_}
 use native.Mathlib.Nat.{zero-add}
 use native.Mathlib.Omega.{arith}
@@ -18,14 +17,14 @@ use Rattle.std.proofs.shelf.Elements.{all-push}
 use Rattle.std.proofs.shelf.Lists.{getD-append-add, joined-more, length-append}
 use Rattle.std.proofs.shelf.Tests.{le-leb, lt-leb, leb-true, leb-false, cond-true, cond-false, cond-both}
 use Rattle.refusal.specs.declared.Refusal.{Refusal}
-use Rattle.refusal.specs.declared.Refusal.the-variants.{BadLine, WrongPhase, OverTotal}
+use Rattle.refusal.specs.declared.Refusal.the-variants.{WrongPhase, OverTotal}
 use Rattle.recipe.specs.declared.trough.Phase.{Phase}
 use Rattle.recipe.specs.declared.trough.Phase.the-variants.{Empty, Filled, Mixed}
 use Rattle.recipe.specs.declared.verdict.Lawful.{Lawful}
 use Rattle.recipe.specs.Laws.{followed, Follows, Begins, MayRun, Fault, no-line, wrong-line, wrong-end, too-much, Judged}
 use Rattle.recipe.specs.Lines.{Entry, inRange, bytesOf, readLine, Stands}
 use Rattle.recipe.specs.Trough.{stepOf}
-use Rattle.recipe.specs.Verdict.{Held, done, bad, next, held, entries, total, endFault, fault, weighed, verdict}
+use Rattle.recipe.specs.Verdict.{next, held, entries, total, endFault, fault, weighed, verdict}
 use Rattle.recipe.proofs.Back.{none-some, read-length, read-back, sound}
 use Rattle.recipe.proofs.Walk.{some-bytes, held-next, held-bad, ruled, not-empty, stepped}
 
@@ -83,10 +82,10 @@ module _ (bs : List ℕ) (es : List Entry) (phase : Phase) (rest : List ℕ) (b 
   these = ap (λ l. entries (held l)) (b .bytes) ∙ along es Empty phase 0 rest (b .ranges) f .1
 
   refused-here : (r : Refusal) → fault phase (length (joined bytesOf es)) (held rest) ≡ Some r → verdict bs ≡ Err r
-  refused-here r p = ap (λ o. ruled o (entries (held bs))) (here ∙ p)
+  refused-here r p = ap (λ o. ruled o (weighed (entries (held bs)))) (here ∙ p)
 
 weighed-whole : (bs : List ℕ) (es : List Entry) → Begins bs es [] → Follows es Empty → verdict bs ≡ weighed es
-weighed-whole bs es b f = ap (λ o. ruled o (entries (held bs))) (here bs es Empty [] b f) ∙ ap weighed (these bs es Empty [] b f ∙ append-nil es)
+weighed-whole bs es b f = ap (λ o. ruled o (weighed (entries (held bs)))) (here bs es Empty [] b f) ∙ ap weighed (these bs es Empty [] b f ∙ append-nil es)
 
 granted : (bs : List ℕ) (es : List Entry) → MayRun bs es → verdict bs ≡ Ok (record { lines = length es; grams = total es })
 granted bs es m = weighed-whole bs es (m .reads) (m .empties) ∙ cond-true _ _ _ (le-leb (total es) 12_000_000 (m .light))
@@ -181,7 +180,7 @@ module _ (bs : List ℕ) (k : Bytes bs) where
       at-line es phase (c ∷ rest) (omega arith) b f (λ e after l to. settle n (es ++ e ∷ []) to after (omega arith)) (readLine (c ∷ rest)) refl
 
 -- the verdict of what was settled
-ruling : (bs : List ℕ) (es : List Entry) (r : Option Refusal) → Settled bs es r → Cases (ruled r es) (λ l. (fs : List Entry) × MayRun bs fs) (Fault bs)
+ruling : (bs : List ℕ) (es : List Entry) (r : Option Refusal) → Settled bs es r → Cases (ruled r (weighed es)) (λ l. (fs : List Entry) × MayRun bs fs) (Fault bs)
 ruling bs es None h =
     cond-both (leb (total es) 12_000_000) (Ok (record { lines = length es; grams = total es })) (Err OverTotal)
     (λ r. Cases r (λ l. (fs : List Entry) × MayRun bs fs) (Fault bs))

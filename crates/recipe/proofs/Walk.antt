@@ -1,10 +1,8 @@
 -- The judge's walk over a recipe, line by line. Assumes nothing.
 use mathlib.Core.Path.{_≡_, refl, sym, ap, _∙_}
 use mathlib.Core.List.{List, [], _∷_}
-use mathlib.Core.Bool.{cond}
 use Prim.Native.Nat.{ℕ, zero, suc, _+_, _-_, _≤_, _<_, min}
 use native.Mathlib.Omega.{arith}
-use lib.Dec.{leb}
 use lib.ListN.{length}
 use Rattle.std.specs.declared.option.Option.{Option}
 use Rattle.std.specs.declared.option.Option.the-variants.{Some, None}
@@ -13,14 +11,14 @@ use Rattle.std.specs.declared.result.Result.the-variants.{Ok, Err}
 use Rattle.std.proofs.shelf.Lists.{nil-from-length}
 use Rattle.std.proofs.shelf.Tests.{le-leb, lt-leb, cond-true, cond-false}
 use Rattle.refusal.specs.declared.Refusal.{Refusal}
-use Rattle.refusal.specs.declared.Refusal.the-variants.{BadLine, WrongPhase, OverTotal}
+use Rattle.refusal.specs.declared.Refusal.the-variants.{WrongPhase, OverTotal}
 use Rattle.recipe.specs.declared.trough.Phase.{Phase}
 use Rattle.recipe.specs.declared.trough.Phase.the-variants.{Empty, Filled, Mixed}
 use Rattle.recipe.specs.declared.verdict.Lawful.{Lawful}
 use Rattle.recipe.specs.Lines.{Entry, dose, mix, empty, remark, gramsOf, bytesOf, readLine}
 use Rattle.recipe.specs.Trough.{stepOf}
-use Rattle.recipe.specs.Verdict.{Held, done, bad, next, heldIn, held, entries, total, endFault, fault, weighed, verdict}
-use Rattle.recipe.proofs.Back.{none-some, read-length}
+use Rattle.recipe.specs.Verdict.{Held, bad, next, heldIn, held, entries, total, endFault, fault, counted, walked, weighed, verdict}
+use Rattle.recipe.proofs.Back.{none-some, ok-err, read-length}
 
 pub some-bytes : (e : Entry) → 1 ≤ length (bytesOf e)
 some-bytes (dose bin grams) = omega arith
@@ -57,31 +55,25 @@ pub held-bad : (bs : List ℕ) → 0 < length bs → readLine bs ≡ None → he
 held-bad [] h p = absurd (omega arith)
 held-bad (b ∷ bs) h p = ap (from (length bs)) p
 
--- the verdict of a first fault, if there is one
-abbrev pub ruled : Option Refusal → List Entry → Result Lawful Refusal
-ruled r es = elim r [ None ↦ weighed es | Some f ↦ Err f ]
+-- the answer where a first fault is known, or that there is none
+abbrev pub ruled : Option Refusal → Result Lawful Refusal → Result Lawful Refusal
+ruled r granted = elim r [ None ↦ granted | Some f ↦ Err f ]
 
 -- the judge stands before rest: what rest holds decides the verdict
 pub record Walked (recipe rest : List ℕ) (phase : Phase) (lines grams : ℕ) : Type 0 where
   pub left : lines + length rest ≤ length recipe
   pub faults : fault Empty 0 (held recipe) ≡ fault phase (length recipe - length rest) (held rest)
   pub counts : length (entries (held recipe)) ≡ lines + length (entries (held rest))
+  pub bounded : grams ≤ 4_294_967_295
   pub weighs : min (total (entries (held recipe))) 4_294_967_295 ≡ min (grams + total (entries (held rest))) 4_294_967_295
-
-pub started : (recipe : List ℕ) → Walked recipe recipe Empty 0 0
-started recipe =
-    let none : 0 ≡ length recipe - length recipe = omega arith in
-    record {
-      left = omega arith;
-      faults = ap (λ p. fault Empty p (held recipe)) none;
-      counts = omega arith;
-      weighs = omega arith;
-    }
 
 pub not-empty : (place : ℕ) (phase : Phase) → (phase ≡ Empty → ⊥) → endFault place phase ≡ Some (WrongPhase place)
 not-empty place Empty n = absurd (n refl)
 not-empty place Filled n = refl
 not-empty place Mixed n = refl
+
+ok-same : (x y : Lawful) → _≡_ {A = Result Lawful Refusal} (Ok x) (Ok y) → x ≡ y
+ok-same x y p = cc
 
 -- what a step leaves to the lines after it
 abbrev pub stepped : ℕ → ℕ → Held → Option Phase → Option Refusal
@@ -101,44 +93,59 @@ module _ {recipe rest : List ℕ} {phase : Phase} {lines grams : ℕ} (w : Walke
         left = omega (arith, w .left);
         faults = w .faults ∙ ap (fault phase place) h ∙ ap (stepped place (length (bytesOf e)) (held after)) q ∙ ap (λ k. fault to k (held after)) on;
         counts = omega (arith, w .counts);
+        bounded = omega arith;
         weighs = omega (arith, w .weighs);
       }
 
   -- a fault where the judge stands is the recipe's first
-  refused : (f : Refusal) → fault phase (length recipe - length rest) (held rest) ≡ Some f → Err f ≡ verdict recipe
-  refused f p = sym (ap (λ r. ruled r (entries (held recipe))) (w .faults ∙ p))
+  refused : (f : Refusal) → fault phase (length recipe - length rest) (held rest) ≡ Some f → Err f ≡ walked recipe
+  refused f p = sym (ap (λ r. ruled r (Ok (counted (entries (held recipe))))) (w .faults ∙ p))
 
-  pub bad-here : 0 < length rest → readLine rest ≡ None → Err (BadLine (length recipe - length rest)) ≡ verdict recipe
-  bad-here h p = refused _ (ap (fault phase _) (held-bad rest h p))
-
-  pub wrong-here : (e : Entry) (after : List ℕ) → readLine rest ≡ Some (e, after) → stepOf phase e ≡ None → Err (WrongPhase (length recipe - length rest)) ≡ verdict recipe
+  pub wrong-here : (e : Entry) (after : List ℕ) → readLine rest ≡ Some (e, after) → stepOf phase e ≡ None → Err (WrongPhase (length recipe - length rest)) ≡ walked recipe
   wrong-here e after p q =
       let place = length recipe - length rest in
       refused _ (ap (fault phase place) (held-next rest (e, after) p) ∙ ap (stepped place (length (bytesOf e)) (held after)) q)
 
-  pub not-emptied : length rest ≡ 0 → (phase ≡ Empty → ⊥) → Err (WrongPhase (length recipe)) ≡ verdict recipe
+  pub not-emptied : length rest ≡ 0 → (phase ≡ Empty → ⊥) → Err (WrongPhase (length recipe)) ≡ walked recipe
   not-emptied h n =
       let none = nil-from-length rest h in
       let at-end : length recipe - length rest ≡ length recipe = omega arith in
       refused _ (ap (λ l. fault phase (length recipe - length rest) (held l)) none ∙ ap (λ p. endFault p phase) at-end ∙ not-empty (length recipe) phase n)
 
-  weighing : length rest ≡ 0 → phase ≡ Empty → weighed (entries (held recipe)) ≡ verdict recipe
-  weighing h e =
-      let none = nil-from-length rest h in
-      sym (ap (λ r. ruled r (entries (held recipe))) (w .faults ∙ ap (λ l. fault phase (length recipe - length rest) (held l)) none ∙ ap (endFault _) e))
-
-  pub too-heavy : length rest ≡ 0 → phase ≡ Empty → 12_000_000 < grams → Err OverTotal ≡ verdict recipe
-  too-heavy h e g =
-      let none = ap (λ l. total (entries (held l))) (nil-from-length rest h) in
-      let over : 12_000_000 < total (entries (held recipe)) = omega (arith, w .weighs) in
-      sym (cond-false _ _ _ (lt-leb (total (entries (held recipe))) 12_000_000 over)) ∙ weighing h e
-
-  pub all-lawful : length rest ≡ 0 → phase ≡ Empty → grams ≤ 12_000_000 → Ok (record { lines = lines; grams = grams }) ≡ verdict recipe
-  all-lawful h e g =
+  pub all-walked : length rest ≡ 0 → phase ≡ Empty → Ok (record { lines = lines; grams = grams }) ≡ walked recipe
+  all-walked h e =
       let nil = nil-from-length rest h in
       let none = ap (λ l. total (entries (held l))) nil in
       let no-line = ap (λ l. length (entries (held l))) nil in
-      let sum : grams ≡ total (entries (held recipe)) = omega (arith, w .weighs) in
+      let sum : grams ≡ min (total (entries (held recipe))) 4_294_967_295 = omega (arith, w .weighs, w .bounded) in
       let count : lines ≡ length (entries (held recipe)) = omega (arith, w .counts) in
       (λ i. Ok (record { lines = count i; grams = sum i }))
-      ∙ sym (cond-true _ _ _ (le-leb (total (entries (held recipe))) 12_000_000 (omega arith))) ∙ weighing h e
+      ∙ sym (ap (λ r. ruled r (Ok (counted (entries (held recipe))))) (w .faults ∙ ap (λ l. fault phase (length recipe - length rest) (held l)) nil ∙ ap (endFault _) e))
+
+-- the judge after the walk
+module _ (bs : List ℕ) where
+  err-by : (r : Option Refusal) (f : Refusal) → ruled r (Ok (counted (entries (held bs)))) ≡ Err f → Err f ≡ ruled r (weighed (entries (held bs)))
+  err-by None f p = absurd (ok-err _ f (sym p))
+  err-by (Some g) f p = sym p
+
+  pub fault-told : (f : Refusal) → walked bs ≡ Err f → Err f ≡ verdict bs
+  fault-told f p = err-by (fault Empty 0 (held bs)) f p
+
+  ok-by : (r : Option Refusal) (l : Lawful) → ruled r (Ok (counted (entries (held bs)))) ≡ Ok l → (l ≡ counted (entries (held bs))) × (weighed (entries (held bs)) ≡ ruled r (weighed (entries (held bs))))
+  ok-by None l p = (ok-same l (counted (entries (held bs))) (sym p), refl)
+  ok-by (Some g) l p = absurd (ok-err l g p)
+
+  pub too-heavy : (l : Lawful) → walked bs ≡ Ok l → 12_000_000 < l .grams → Err OverTotal ≡ verdict bs
+  too-heavy l p g =
+      let found = ok-by (fault Empty 0 (held bs)) l p in
+      let sum = ap (λ x. x .grams) (found .0) in
+      let over : 12_000_000 < total (entries (held bs)) = omega arith in
+      sym (cond-false _ _ _ (lt-leb (total (entries (held bs))) 12_000_000 over)) ∙ found .1
+
+  pub all-lawful : (l : Lawful) → walked bs ≡ Ok l → l .grams ≤ 12_000_000 → Ok l ≡ verdict bs
+  all-lawful l p g =
+      let found = ok-by (fault Empty 0 (held bs)) l p in
+      let sum = ap (λ x. x .grams) (found .0) in
+      let whole : min (total (entries (held bs))) 4_294_967_295 ≡ total (entries (held bs)) = omega arith in
+      ap Ok (found .0) ∙ (λ i. Ok (record { lines = length (entries (held bs)); grams = whole i }))
+      ∙ sym (cond-true _ _ _ (le-leb (total (entries (held bs))) 12_000_000 (omega arith))) ∙ found .1

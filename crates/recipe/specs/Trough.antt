@@ -1,6 +1,5 @@
 -- The trough: what a line does to its phase.
 -- Assumes nothing.
-use Prim.Native.Nat.{ℕ}
 use Rattle.std.specs.declared.option.Option.{Option}
 use Rattle.std.specs.declared.option.Option.the-variants.{Some, None}
 use Rattle.recipe.specs.declared.trough.Phase.{Phase}

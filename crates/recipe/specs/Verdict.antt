@@ -2,7 +2,7 @@
 -- Assumes nothing.
 use mathlib.Core.Bool.{cond}
 use mathlib.Core.List.{List, [], _∷_}
-use Prim.Native.Nat.{ℕ, zero, suc, _+_}
+use Prim.Native.Nat.{ℕ, zero, suc, _+_, _-_, _^_, min}
 use lib.Dec.{leb}
 use lib.ListN.{length}
 use Rattle.std.specs.declared.option.Option.{Option}
@@ -53,6 +53,13 @@ fault phase place done = endFault place phase
 fault phase place bad = Some (BadLine place)
 fault phase place (next e h) =
     elim (stepOf phase e) [ None ↦ Some (WrongPhase place) | Some after ↦ fault after (place + length (bytesOf e)) h ]
+
+-- a whole recipe without a fault, as it is walked: its lines, and its grams by a sum that stops at the largest number of 32 bits
+abbrev pub counted : List Entry → Lawful
+counted es = record { lines = length es; grams = min (total es) (2 ^ 32 - 1) }
+
+abbrev pub walked : List ℕ → Result Lawful Refusal
+walked bs = elim (fault Empty 0 (held bs)) [ None ↦ Ok (counted (entries (held bs))) | Some f ↦ Err f ]
 
 -- the total is looked at last
 abbrev pub weighed : List Entry → Result Lawful Refusal

@@ -1,7 +1,7 @@
 //! The judge of a recipe.
 ghost use mathlib.Core.Path.{_≡_};
 ghost use Rattle.recipe.specs.Laws.{Judged};
-ghost use Rattle.recipe.specs.Verdict.{verdict};
+ghost use Rattle.recipe.specs.Verdict.{walked, verdict};
 use crate::lines::read_line;
 use crate::trough::Phase;
 use crate::trough::PhasePartialEq;
@@ -17,11 +17,10 @@ pub struct Lawful {
     pub grams: u32,
 }
 
-/// Judges a recipe: what is lawful in it, or its first fault from the left.
-/// The total is looked at last, so the running sum may stop at its type's end.
-pub fn judge(recipe: &[u8]) -> Result<Lawful, Refusal>
-    ensures value { λ r. ⌜ r ≡ verdict (now (recipe .entry)) ⌝ }
-    ensures laws { λ r. ⌜ Judged (now (recipe .entry)) r ⌝ }
+/// Walks over every line of a recipe, from the empty trough to the empty trough.
+/// The sum of the grams stops at the end of its type, far above what is lawful.
+fn walk(recipe: &[u8]) -> Result<Lawful, Refusal>
+    ensures { λ r. ⌜ r ≡ walked (now (recipe .entry)) ⌝ }
 {
     let mut rest = recipe;
     let mut phase = Phase::Empty;
@@ -43,8 +42,17 @@ pub fn judge(recipe: &[u8]) -> Result<Lawful, Refusal>
     if phase != Phase::Empty {
         return Err(Refusal::WrongPhase(recipe.len()));
     }
-    if grams > MOST_GRAMS {
+    Ok(Lawful { lines, grams })
+}
+
+/// Judges a recipe: what is lawful in it, or its first fault from the left. The total comes last.
+pub fn judge(recipe: &[u8]) -> Result<Lawful, Refusal>
+    ensures value { λ r. ⌜ r ≡ verdict (now (recipe .entry)) ⌝ }
+    ensures laws { λ r. ⌜ Judged (now (recipe .entry)) r ⌝ }
+{
+    let found = walk(recipe)?;
+    if found.grams > MOST_GRAMS {
         return Err(Refusal::OverTotal);
     }
-    Ok(Lawful { lines, grams })
+    Ok(found)
 }

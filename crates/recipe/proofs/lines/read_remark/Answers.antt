@@ -1,8 +1,8 @@
-use mathlib.Core.Path.{ap, sym, _∙_}
+use mathlib.Core.Path.{ap, _∙_}
 use native.Mathlib.Omega.{arith}
 use borrow.Author.Tests.{ltb-false}
 use Prim.Native.Nat.{_+_}
-use lib.ListN.{getD, take, drop}
+use lib.ListN.{take, drop}
 use Rattle.std.proofs.shelf.Lists.{take-rest, drop-drop}
 use Rattle.recipe.specs.Lines.{whole, remark}
 use Rattle.recipe.proofs.Reading.{in-front}

@@ -1,59 +1,23 @@
-use mathlib.Core.Path.{_≡_, sym, ap, _∙_}
-use mathlib.Core.Bool.{Bool, true, false, not, cond}
-use Prim.Native.Nat.{ℕ, _+_, min}
-use native.Mathlib.Omega.{arith}
-use lib.ListN.{length}
-use borrow.Author.Tests.{true-eqb, false-eqb}
-use Rattle.std.proofs.shelf.Tests.{false≢true, true≢false}
-use Rattle.recipe.specs.declared.trough.Phase.the-variants.{Empty}
-use Rattle.recipe.specs.Lines.{says}
-use Rattle.recipe.proofs.Back.{read-length}
+use mathlib.Core.Path.{_≡_, sym}
+use Rattle.std.proofs.shelf.Results.{err-from-errBy}
+use Rattle.recipe.specs.Verdict.{verdict}
 use Rattle.recipe.proofs.Law.{judged}
-use Rattle.recipe.proofs.Walk.{some-bytes, walks, bad-here, wrong-here, not-emptied, too-heavy, all-lawful}
+use Rattle.recipe.proofs.Walk.{fault-told, too-heavy, all-lawful}
 use Rattle.recipe.proofs.verdict.judge.Needs as need
 
-pub loop-rest-less : need.loop-rest-less
-loop-rest-less c =
-    omega (arith, read-length (c .loop-rest .rest .now) (says (c .in-Some .line), c .in-Some .after .now) (sym (c .in-Some .ensures tt .value)), some-bytes (says (c .in-Some .line)))
-
-pub loop-rest-again : need.loop-rest-again
-loop-rest-again c =
-    walks (c .loop-rest .inv) (says (c .in-Some .line)) (c .in-Some .after .now) (c .in-Some-step .next) (sym (c .in-Some .ensures tt .value)) (sym (c .in-Some-step .ensures tt))
-    _ (c .saturating-add-grams .ensures ∙ ap (λ g. min (c .loop-rest .grams + g) 4_294_967_295) (c .grams .ensures))
-
--- what `!=` at two phases says
-same : (P : Type 0) (x : Bool) → cond x P (P → ⊥) → false ≡ not x → P
-same P true h p = h
-same P false h p = absurd (false≢true p)
-
-other : (P : Type 0) (x : Bool) → cond x P (P → ⊥) → true ≡ not x → P → ⊥
-other P true h p = absurd (true≢false p)
-other P false h p = h
-
-pub returns-in-rest : need.returns-in-rest
-returns-in-rest c =
-    let v = bad-here (c .loop-rest .inv) (omega (arith, false-eqb (length (c .loop-rest .rest .now)) 0 (c .loop-rest-test .ensures tt))) (sym (c .in-rest .ensures tt .value)) in
+pub returns-in-Break-found : need.returns-in-Break-found
+returns-in-Break-found c =
+    let p = err-from-errBy (c .from-residual .result) (c .from-residual .ensures .1) in
+    let told = fault-told (c .args .recipe .now) (c .in-Break-found .field-0 .0) (sym (c .in-Break-found .ensures tt)) in
+    let v : c .from-residual .result ≡ verdict (c .args .recipe .now) = rw (p .1, p .2) told in
     record { value = v; laws = judged (c .args .recipe .now) _ (λ i. c .typed .recipe i .fits) v }
 
-pub returns-in-rest-step : need.returns-in-rest-step
-returns-in-rest-step c =
-    let v = wrong-here (c .loop-rest .inv) (says (c .in-Some .line)) (c .in-Some .after .now) (sym (c .in-Some .ensures tt .value)) (sym (c .in-rest-step .ensures tt)) in
-    record { value = v; laws = judged (c .args .recipe .now) _ (λ i. c .typed .recipe i .fits) v }
-
-pub returns-then-ne : need.returns-then-ne
-returns-then-ne c =
-    let e = c .if-ne .ensures tt in
-    let v = not-emptied (c .loop-rest .inv) (true-eqb (length (c .loop-rest .rest .now)) 0 (c .loop-rest-test .ensures tt)) (other (c .loop-rest .phase ≡ Empty) (e .0) (e .1) (e .2)) in
-    record { value = v; laws = judged (c .args .recipe .now) _ (λ i. c .typed .recipe i .fits) v }
-
-pub returns-then-grams-gt-MOST-GRAMS : need.returns-then-grams-gt-MOST-GRAMS
-returns-then-grams-gt-MOST-GRAMS c =
-    let e = c .if-ne .ensures tt in
-    let v = too-heavy (c .loop-rest .inv) (true-eqb (length (c .loop-rest .rest .now)) 0 (c .loop-rest-test .ensures tt)) (same (c .loop-rest .phase ≡ Empty) (e .0) (e .1) (e .2)) (c .if-grams-gt-MOST-GRAMS .taken) in
+pub returns-then-found-gt-MOST-GRAMS : need.returns-then-found-gt-MOST-GRAMS
+returns-then-found-gt-MOST-GRAMS c =
+    let v = too-heavy (c .args .recipe .now) (c .in-Continue-found .found) (sym (c .in-Continue-found .ensures tt)) (c .if-found-gt-MOST-GRAMS .taken) in
     record { value = v; laws = judged (c .args .recipe .now) _ (λ i. c .typed .recipe i .fits) v }
 
 pub returns : need.returns
 returns c =
-    let e = c .if-ne .ensures tt in
-    let v = all-lawful (c .loop-rest .inv) (true-eqb (length (c .loop-rest .rest .now)) 0 (c .loop-rest-test .ensures tt)) (same (c .loop-rest .phase ≡ Empty) (e .0) (e .1) (e .2)) (c .if-grams-gt-MOST-GRAMS .left) in
+    let v = all-lawful (c .args .recipe .now) (c .in-Continue-found .found) (sym (c .in-Continue-found .ensures tt)) (c .if-found-gt-MOST-GRAMS .left) in
     record { value = v; laws = judged (c .args .recipe .now) _ (λ i. c .typed .recipe i .fits) v }
