@@ -1,0 +1,4 @@
+pub mod Steps
+pub mod Cover
+pub mod Marking
+pub mod Bitmap

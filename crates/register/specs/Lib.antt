@@ -1,0 +1,3 @@
+pub mod Chart
+pub mod Marked
+pub mod Runs
