@@ -1,3 +1,4 @@
 pub mod Chart
 pub mod Marked
 pub mod Runs
+pub mod Spans

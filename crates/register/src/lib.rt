@@ -7,9 +7,13 @@ ghost use Rattle.register.specs.Runs.{Meaning, next-run};
 use refusal::Refusal;
 
 mod chart;
+mod span;
+mod spans;
 
 pub use chart::ChartRegister;
 pub use chart::ChartRegisterRegister;
+pub use span::SpanRegister;
+pub use span::SpanRegisterRegister;
 
 /// Numbers are below this.
 pub const NUMBERS: u16 = 4096;
