@@ -6,3 +6,6 @@ pub mod Tables
 pub mod Changes
 pub mod Later
 pub mod Touching
+pub mod Walk
+pub mod Writing
+pub mod Pages

@@ -7,6 +7,7 @@ ghost use Rattle.register.specs.Runs.{Meaning, next-run};
 use refusal::Refusal;
 
 mod chart;
+pub mod page;
 mod span;
 mod spans;
 
