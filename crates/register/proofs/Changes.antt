@@ -30,7 +30,7 @@ or-assoc : (a b c : Bool) → (a || (b || c)) ≡ ((a || b) || c)
 or-assoc true b c = refl
 or-assoc false b c = refl
 
-or-between : (a b c : Bool) → (a || (b || c)) ≡ (b || (a || c))
+pub or-between : (a b c : Bool) → (a || (b || c)) ≡ (b || (a || c))
 or-between true true c = refl
 or-between true false c = refl
 or-between false true c = refl
@@ -74,7 +74,7 @@ apart-raise m least (p ∷ ps) h low =
     let a = apart-parts m p ps h in
     apart-from least p ps (record { low = low (omega arith); some = a .some; high = a .high; rest = a .rest })
 
-within-more : (p : Pair) (n k : ℕ) → p .0 + p .1 ≡ n → within (p .0, p .1 + 1) k ≡ (eqb k n || within p k)
+pub within-more : (p : Pair) (n k : ℕ) → p .0 + p .1 ≡ n → within (p .0, p .1 + 1) k ≡ (eqb k n || within p k)
 within-more p n k e = grind (arith, tells)
 
 within-earlier : (p : Pair) (n k : ℕ) → p .0 ≡ n + 1 → within (p .0 - 1, p .1 + 1) k ≡ (eqb k n || within p k)

@@ -9,3 +9,4 @@ pub mod Touching
 pub mod Walk
 pub mod Writing
 pub mod Pages
+pub mod Loading

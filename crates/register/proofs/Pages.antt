@@ -20,7 +20,7 @@ use Rattle.std.specs.declared.option.Option.{Option}
 use Rattle.std.specs.declared.option.Option.the-variants.{Some, None}
 use Rattle.std.specs.declared.result.Result.{Result}
 use Rattle.std.specs.declared.result.Result.the-variants.{Ok, Err}
-use Rattle.register.specs.Page.{word, pair-bytes, page, number-of, pairs-in, page-count, page-pairs, whole-page, pair-fault, page-fault, fault-answer, load-answer, loaded, load-after, Pages-tell-sets, Written-pages-load, Blank-is-empty}
+use Rattle.register.specs.Page.{word, pair-bytes, page, number-of, pairs-in, page-count, page-pairs, whole-page, pair-fault, page-fault, Faultless, fault-answer, load-answer, loaded, load-after, Pages-tell-sets, Written-pages-load, Blank-is-empty}
 use Rattle.register.specs.Runs.{Meaning, Numbers, Pair, Small, runs, run-count, covered, fits, apart}
 use Rattle.register.proofs.Cover.{apart-parts, runs-covered, runs-apart, covered-runs, at-most-2048-runs}
 use Rattle.register.proofs.Writing.{length-page}
@@ -111,12 +111,6 @@ fault-apart least place (p ∷ ps) e =
     (λ f. and-from _ _ f (fault-apart (p .0 + p .1 + 1) (place + 4) ps (sym (cond-true (fits least p) _ _ f) ∙ e)))
     (λ f. absurd (mathlib.Core.Bool.true≢false (ap isSome (sym (cond-false (fits least p) _ _ f) ∙ e))))
     (cases-bool (fits least p))
-
--- what a page with no fault is
-pub record Faultless (bs : List ℕ) : Type 0 where
-  pub long : length bs ≡ 2 + 4 * page-count bs
-  pub gaps : apart 0 (page-pairs bs) ≡ true
-  pub count : length (page-pairs bs) ≡ page-count bs
 
 pub whole-parts : (bs : List ℕ) → whole-page bs ≡ true → (2 ≤ length bs) × (length bs ≡ 2 + 4 * page-count bs)
 whole-parts bs h = let a = and-parts (leb 2 (length bs)) _ h in (leb-true _ _ (a .0), eqb-true _ _ (a .1))

@@ -6,11 +6,12 @@ use mathlib.Core.Logic.{_⊎_, inl, inr, ⊎-elim}
 use mathlib.Core.Path.{_≡_, refl, sym, ap, subst, _∙_}
 use Prim.Native.Nat.{ℕ, zero, suc, _+_, _-_, _<_, _≤_}
 use native.Mathlib.Omega.{arith}
+use lib.ListN.{length}
 use Rattle.std.proofs.shelf.Tests.{cases-bool, cases-lt, and-parts}
 use Rattle.std.specs.Options.{valueOr, isSome}
 use Rattle.std.specs.declared.option.Option.{Option}
 use Rattle.std.specs.declared.option.Option.the-variants.{Some, None}
-use Rattle.register.specs.Runs.{Numbers, Pair, begins, stretch, runs-from, first-of, next-run}
+use Rattle.register.specs.Runs.{Numbers, Pair, begins, stretch, runs-from, run-count, first-of, next-run}
 use Rattle.register.proofs.Cover.{begins-inside}
 use Rattle.register.proofs.Steps.{from-end, from-yes, from-no, skip-to, stretch-le, stretch-all, stretch-yes}
 
@@ -63,3 +64,18 @@ module _ (u : Numbers) where
       go : (ps : List Pair) → None ≡ first-of ps → ps ≡ []
       go [] e = refl
       go (p ∷ ps) e = absurd (mathlib.Core.Bool.false≢true (ap isSome e))
+
+-- whether there is a next run from 0 on tells whether there is one at all
+runs-some : (ps : List Pair) → true ≡ isSome (first-of ps) → length ps ≡ 0 → ⊥
+runs-some [] h e = mathlib.Core.Bool.true≢false h
+runs-some (p ∷ ps) h e = omega arith
+
+runs-none : (ps : List Pair) → false ≡ isSome (first-of ps) → length ps ≡ 0
+runs-none [] h = refl
+runs-none (p ∷ ps) h = absurd (mathlib.Core.Bool.false≢true h)
+
+pub has-runs : (u : Numbers) → true ≡ isSome (next-run u 0) → run-count u ≡ 0 → ⊥
+has-runs u = runs-some (runs-from u 0)
+
+pub has-none : (u : Numbers) → false ≡ isSome (next-run u 0) → run-count u ≡ 0
+has-none u = runs-none (runs-from u 0)

@@ -14,7 +14,7 @@ use Rattle.std.specs.declared.option.Option.{Option}
 use Rattle.std.specs.declared.option.Option.the-variants.{Some, None}
 use Rattle.std.specs.declared.result.Result.{Result}
 use Rattle.std.specs.declared.result.Result.the-variants.{Ok, Err}
-use Rattle.register.specs.Runs.{Meaning, Numbers, Pair, Small, runs, run-count, covered, fits}
+use Rattle.register.specs.Runs.{Meaning, Numbers, Pair, Small, runs, run-count, covered, fits, apart}
 
 -- a number in two bytes, low byte first
 abbrev pub word : ℕ → List ℕ
@@ -66,6 +66,12 @@ pair-fault least place (p ∷ ps) = cond (fits least p) (pair-fault (p .0 + p .1
 abbrev pub page-fault : List ℕ → Option ℕ
 page-fault bs = cond (whole-page bs) (pair-fault 0 2 (page-pairs bs)) (Some 0)
 
+-- what a page with no fault is
+pub record Faultless (bs : List ℕ) : Type 0 where
+  pub long : length bs ≡ 2 + 4 * page-count bs
+  pub gaps : apart 0 (page-pairs bs) ≡ true
+  pub count : length (page-pairs bs) ≡ page-count bs
+
 -- loading: refuses a register that is not blank, then a faulty page, then one with more runs than the register keeps
 abbrev pub fault-answer : Meaning → List ℕ → Option ℕ → Result (Unit {0}) Refusal
 fault-answer m bs (Some place) = Err (BadPage place)
@@ -74,9 +80,13 @@ fault-answer m bs None = cond (ltb (m .limit) (page-count bs)) (Err TooManyRuns)
 abbrev pub load-answer : Meaning → List ℕ → Result (Unit {0}) Refusal
 load-answer m bs = cond (eqb (run-count (m .used)) 0) (fault-answer m bs (page-fault bs)) (Err NotBlank)
 
+-- a register with the numbers of the pairs
+abbrev pub with-pairs : Meaning → List Pair → Meaning
+with-pairs m ps = record { used = covered ps; limit = m .limit }
+
 -- a granted loading gives the register the page's numbers, a refused one changes nothing
 abbrev pub loaded : Meaning → List ℕ → Meaning
-loaded m bs = record { used = covered (page-pairs bs); limit = m .limit }
+loaded m bs = with-pairs m (page-pairs bs)
 
 abbrev pub load-after : Meaning → List ℕ → Meaning
 load-after m bs = cond (isOk (load-answer m bs)) (loaded m bs) m
