@@ -62,6 +62,18 @@ first-of (p ∷ ps) = Some p
 abbrev pub next-run : Numbers → ℕ → Option Pair
 next-run u n = first-of (runs-from u n)
 
+-- a run: a longest unbroken stretch of the set
+pub record Is-run (u : Numbers) (p : Pair) : Type 0 where
+  pub some : 0 < p .1
+  pub inside : (k : ℕ) → p .0 ≤ k → k < p .0 + p .1 → u k ≡ true
+  pub before : 0 < p .0 → u (p .0 - 1) ≡ false
+  pub after : u (p .0 + p .1) ≡ false
+
+-- the first run that begins at n or later, or nothing where no run does
+abbrev pub First-run : Numbers → ℕ → Option Pair → Type 0
+First-run u n None = (q : Pair) → Is-run u q → n ≤ q .0 → ⊥
+First-run u n (Some p) = (n ≤ p .0) × Is-run u p × ((q : Pair) → Is-run u q → n ≤ q .0 → p .0 ≤ q .0)
+
 -- the set with n added
 abbrev pub with-number : Numbers → ℕ → Numbers
 with-number u n k = eqb k n || u k

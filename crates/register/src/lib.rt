@@ -3,7 +3,7 @@ ghost use mathlib.Core.Bool.{true};
 ghost use mathlib.Core.Path.{_≡_};
 ghost use Prim.Native.Nat.{ℕ, _<_, _≤_};
 ghost use Rattle.register.specs.Marked.{mark-answer, mark-after};
-ghost use Rattle.register.specs.Runs.{Meaning, next-run};
+ghost use Rattle.register.specs.Runs.{First-run, Meaning, next-run};
 use refusal::Refusal;
 
 mod chart;
@@ -38,7 +38,8 @@ pub trait Register {
 
     /// The first run that begins at `n` or later, as first number and length.
     fn next_run(&self, n: u16) -> Option<(u16, u16)>
-        ensures { λ r. ⌜ r ≡ next-run (meaning (now (self .entry)) .used) n ⌝ };
+        ensures value { λ r. ⌜ r ≡ next-run (meaning (now (self .entry)) .used) n ⌝ }
+        ensures first { λ r. ⌜ First-run (meaning (now (self .entry)) .used) n r ⌝ };
 
     /// The most runs that the register keeps.
     fn limit(&self) -> u16

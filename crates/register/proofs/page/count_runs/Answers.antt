@@ -8,7 +8,7 @@ use Rattle.register.proofs.page.count_runs.Needs as need
 use Rattle.register.proofs.page.count_runs.Needs.{In-Some}
 
 step : (g : given.Over) (c : In-Some g) → Step (g .R·Register .meaning (c .args .register .now) .used) (c .loop-first .from) (c .in-Some .first, c .in-Some .len)
-step g c = next-step (g .R·Register .meaning (c .args .register .now) .used) (c .loop-first .from) (c .in-Some .first, c .in-Some .len) (c .in-Some .ensures tt)
+step g c = next-step (g .R·Register .meaning (c .args .register .now) .used) (c .loop-first .from) (c .in-Some .first, c .in-Some .len) (c .in-Some .ensures tt .value)
 
 pub add-count : need.add-count
 add-count g c =

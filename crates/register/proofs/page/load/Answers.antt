@@ -14,12 +14,12 @@ use Rattle.register.proofs.page.load.Needs.{Else-is-some}
 
 -- past the first test the register has no run
 none : (g : given.Over) (c : Else-is-some g) → run-count (g .R·Register .meaning (c .args .register .now) .used) ≡ 0
-none g c = has-none (g .R·Register .meaning (c .args .register .now) .used) (c .if-is-some .ensures tt ∙ ap isSome (c .next-run .ensures))
+none g c = has-none (g .R·Register .meaning (c .args .register .now) .used) (c .if-is-some .ensures tt ∙ ap isSome (c .next-run .ensures .value))
 
 pub returns-then-is-some : need.returns-then-is-some
 returns-then-is-some g c =
     let m = g .R·Register .meaning (c .args .register .now) in
-    let l = not-blank m (c .args .page .now) (has-runs (m .used) (c .if-is-some .ensures tt ∙ ap isSome (c .next-run .ensures))) in
+    let l = not-blank m (c .args .page .now) (has-runs (m .used) (c .if-is-some .ensures tt ∙ ap isSome (c .next-run .ensures .value))) in
     record { answer = l .answer; after = l .after; back = λ e. absurd (false≢true (ap isOk e)); written = written-pages-load; blank = blank-is-empty }
 
 pub returns-in-Some : need.returns-in-Some

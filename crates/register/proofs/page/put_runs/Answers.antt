@@ -6,7 +6,7 @@ use Rattle.register.proofs.page.put_runs.Needs as need
 use Rattle.register.proofs.page.put_runs.Needs.{In-Some}
 
 step : (g : given.Over) (c : In-Some g) → Step (g .R·Register .meaning (c .args .register .now) .used) (c .loop-first .from) (c .in-Some .first, c .in-Some .len)
-step g c = next-step (g .R·Register .meaning (c .args .register .now) .used) (c .loop-first .from) (c .in-Some .first, c .in-Some .len) (c .in-Some .ensures tt)
+step g c = next-step (g .R·Register .meaning (c .args .register .now) .used) (c .loop-first .from) (c .in-Some .first, c .in-Some .len) (c .in-Some .ensures tt .value)
 
 pub add-from : need.add-from
 add-from g c = let s = step g (need.at·add-from g c .In-Some) in record { fits = omega (arith, s .high) }
@@ -24,4 +24,4 @@ loop-first-again g c =
 pub returns : need.returns
 returns g c =
     let u = g .R·Register .meaning (c .args .register .now) .used in
-    wrote-all u (c .args .out .now) (c .loop-first .from) (c .loop-first .place) (c .loop-first .out) (c .loop-first .inv) (next-stop u (c .loop-first .from) (c .in-rest .ensures tt))
+    wrote-all u (c .args .out .now) (c .loop-first .from) (c .loop-first .place) (c .loop-first .out) (c .loop-first .inv) (next-stop u (c .loop-first .from) (c .in-rest .ensures tt .value))
