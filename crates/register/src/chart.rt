@@ -7,6 +7,9 @@ use crate::NUMBERS;
 use crate::Register;
 use refusal::Refusal;
 
+/// No set of numbers has more runs.
+const LIMIT: u16 = 2048;
+
 /// Number `n` is bit `n % 64` of word `n / 64`.
 #[derive(Drop)]
 pub struct ChartRegister {
@@ -75,6 +78,6 @@ pub impl Register for ChartRegister as ChartRegisterRegister {
     }
 
     fn limit(&self) -> u16 {
-        2048
+        LIMIT
     }
 }

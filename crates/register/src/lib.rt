@@ -10,6 +10,8 @@ mod chart;
 pub mod page;
 mod span;
 mod spans;
+#[cfg(test)]
+mod tests;
 
 pub use chart::ChartRegister;
 pub use chart::ChartRegisterRegister;

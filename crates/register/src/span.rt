@@ -12,6 +12,9 @@ use crate::spans::Span;
 use crate::spans::Spans;
 use refusal::Refusal;
 
+/// One run a span.
+const LIMIT: u16 = 64;
+
 /// Keeps each run of used numbers as one span.
 #[derive(Drop)]
 pub struct SpanRegister {
@@ -71,6 +74,6 @@ pub impl Register for SpanRegister as SpanRegisterRegister {
     }
 
     fn limit(&self) -> u16 {
-        64
+        LIMIT
     }
 }
