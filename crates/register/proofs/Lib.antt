@@ -1,0 +1,12 @@
+pub mod Steps
+pub mod Cover
+pub mod Marking
+pub mod Bitmap
+pub mod Tables
+pub mod Changes
+pub mod Later
+pub mod Touching
+pub mod Walk
+pub mod Writing
+pub mod Pages
+pub mod Loading

@@ -1,0 +1,5 @@
+pub mod Chart
+pub mod Marked
+pub mod Page
+pub mod Runs
+pub mod Spans
