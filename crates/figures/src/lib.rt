@@ -5,7 +5,7 @@ ghost use Rattle.figures.specs.Worked.{Worked};
 /// How many rows the table of worked figures has. That each of them holds is proved with this call.
 pub fn rows() -> u8
     ensures figures { λ _. ⌜ Worked ⌝ }
-    ensures count { λ r. ⌜ r ≡ 9 ⌝ }
+    ensures count { λ r. ⌜ r ≡ 14 ⌝ }
 {
-    9
+    14
 }

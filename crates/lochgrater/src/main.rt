@@ -4,6 +4,7 @@ mod hashing;
 mod input;
 mod judging;
 mod output;
+mod paging;
 mod plain;
 mod speed;
 
@@ -14,20 +15,21 @@ use std::fmt::Display;
 const VERSION: &str = "lochgrater 0.1.0";
 
 const HELP: &str = "usage: lochgrater COMMAND
-  hash FILE..          print the PHOTON-Beetle digest of each file
-  judge FILE           print a recipe line by line, or why it may not be run
-  recipe TEXT OUT      make a recipe's bytes of such lines, without the places
-  cipher seal WORDS IN OUT   seal a file with the raw cipher
-  cipher open WORDS IN OUT   open a sealed file
-  speed                time the engines against each other
-  help                 print this text
-  version              print the program's version
-A FILE, IN or OUT of '-' is standard input or output.
+  hash FILE..                   print the PHOTON-Beetle digest of each file
+  page [--register KIND] FILE   print the runs of a number page; KIND is chart or span
+  judge FILE                    print a recipe line by line, or why it may not be run
+  recipe TEXT OUT               make a recipe's bytes of such lines, without the places
+  cipher seal WORDS IN OUT      seal a file with the raw cipher
+  cipher open WORDS IN OUT      open a sealed file
+  speed                         time the engines against each other
+  help                          print this text
+  version                       print the program's version
+A FILE, TEXT or IN of '-' is standard input, an OUT of '-' standard output.
 WORDS of cipher:
   --rate 128|32
-  --key HEX | --key-file FILE     16 bytes
-  --nonce HEX                     16 bytes
-  --ad HEX | --ad-file FILE       associated data, none if left out";
+  --key HEX | --key-file FILE   16 bytes
+  --nonce HEX                   16 bytes
+  --ad HEX | --ad-file FILE     associated data, none if left out";
 
 /// How a command ended. What failed has been said on standard error by then.
 #[derive(Clone, Copy)]
@@ -57,6 +59,7 @@ fn run(rt: &LibcRuntime, words: &[String]) -> Result<Status, AnyError> {
     };
     match command.as_str() {
         "hash" => hashing::hash_files(rt, names),
+        "page" => paging::run(rt, names),
         "judge" => judging::judge(rt, names),
         "recipe" => judging::make(rt, names),
         "cipher" => cipher::run(rt, names),
