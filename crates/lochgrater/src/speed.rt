@@ -30,8 +30,9 @@ fn time<E: Engine>(rt: &LibcRuntime, engine: &E, label: &str, turns: u32) -> io:
         eprintln!(rt, "timing the {label} engine, {number} of {TRIES} ..")?;
         let start = Instant::now(rt)?;
         for i in 0..turns {
-            // A state that changes from outside: no compiler can leave a permutation out.
-            state[0] ^= (i & 0xff) as u8;
+            // Which byte changes depends on the state, so that no compiler can leave a permutation out.
+            let at = usize::from(state[0] % 32);
+            state[at] ^= (i & 0xff) as u8;
             engine.permute(&mut state);
         }
         let spent = start.elapsed(rt)?.as_nanos();
