@@ -8,11 +8,11 @@ use native.Mathlib.Omega.{arith}
 use lib.Dec.{eqb, ltb}
 use Rattle.refusal.specs.declared.Refusal.{Refusal}
 use Rattle.refusal.specs.declared.Refusal.the-variants.{NumberTooLarge, NumberUsed, TooManyRuns}
-use Rattle.std.proofs.shelf.Tests.{cond-true, cond-false, lt-ltb, le-ltb, or-cases, eqb-true}
+use Rattle.std.proofs.shelf.Tests.{cond-true, cond-false, lt-ltb, le-ltb, lt-leb, le-leb, or-cases, eqb-true}
 use Rattle.std.specs.Results.{isOk}
 use Rattle.std.specs.declared.result.Result.{Result}
 use Rattle.std.specs.declared.result.Result.the-variants.{Ok, Err}
-use Rattle.register.specs.Marked.{crowded, mark-answer, marked, mark-after}
+use Rattle.register.specs.Marked.{allowed, mark-answer, marked, mark-after}
 use Rattle.register.specs.Runs.{Numbers, Meaning, Small, run-count, with-number}
 
 pub with-small : (u : Numbers) (n : ℕ) → n < 4096 → Small u → Small (with-number u n)
@@ -35,8 +35,8 @@ module _ (m : Meaning) (n : ℕ) where
 
   pub too-many : n < 4096 → m .used n ≡ false → m .limit < run-count (with-number (m .used) n) → Marks m n (Err TooManyRuns) m
   too-many h e c =
-      answered (Err TooManyRuns) (cond-false (ltb 4095 n) _ _ (le-ltb 4095 n (omega arith)) ∙ cond-false (m .used n) _ _ e ∙ cond-true (crowded m n) _ _ (lt-ltb _ _ c))
+      answered (Err TooManyRuns) (cond-false (ltb 4095 n) _ _ (le-ltb 4095 n (omega arith)) ∙ cond-false (m .used n) _ _ e ∙ cond-false (allowed m n) _ _ (lt-leb _ _ c))
 
   pub granted : n < 4096 → m .used n ≡ false → run-count (with-number (m .used) n) ≤ m .limit → Marks m n (Ok tt) (marked m n)
   granted h e c =
-      answered (Ok tt) (cond-false (ltb 4095 n) _ _ (le-ltb 4095 n (omega arith)) ∙ cond-false (m .used n) _ _ e ∙ cond-false (crowded m n) _ _ (le-ltb _ _ c))
+      answered (Ok tt) (cond-false (ltb 4095 n) _ _ (le-ltb 4095 n (omega arith)) ∙ cond-false (m .used n) _ _ e ∙ cond-true (allowed m n) _ _ (le-leb _ _ c))

@@ -25,6 +25,7 @@ impl ChartRegister {
         ChartRegister { words: [0; 64] }
     }
 
+    /// Whether `n` is used.
     fn holds(&self, n: u16) -> bool
         ensures { λ r. ⌜ r ≡ charted (now (self .entry) .words) n ⌝ }
     {

@@ -1,9 +1,10 @@
 //! The span register: at most 64 spans, sorted by first number, with a gap between neighbours.
-ghost use mathlib.Core.Bool.{true};
+ghost use mathlib.Core.Bool.{true, false};
 ghost use mathlib.Core.Path.{_≡_};
-ghost use Prim.Native.Nat.{_≤_};
+ghost use Prim.Native.Nat.{_<_, _≤_};
 ghost use lib.ListN.{length};
-ghost use Rattle.register.specs.Runs.{apart, blank-register};
+ghost use Rattle.register.specs.Marked.{mark-answer, mark-after};
+ghost use Rattle.register.specs.Runs.{apart, blank-register, covered};
 ghost use Rattle.register.specs.Spans.{listed, span-meaning};
 use crate::NUMBERS;
 use crate::Register;
@@ -33,6 +34,28 @@ impl SpanRegister {
             spans: Spans::new(),
         }
     }
+
+    /// Adds a number that no span holds. It looks for spans to join before it counts them.
+    fn add(&mut self, n: u16) -> Result<(), Refusal>
+        requires small { ⌜ n < 4096 ⌝ }
+        requires new { ⌜ covered (listed (now self .spans)) n ≡ false ⌝ }
+        ensures answer { λ r. ⌜ r ≡ mark-answer (span-meaning (now (self .entry) .spans)) n ⌝ }
+        ensures after { λ _. ⌜ span-meaning (now (self .exit) .spans) ≡ mark-after (span-meaning (now (self .entry) .spans)) n ⌝ }
+    {
+        let i = self.spans.before(n);
+        match (self.spans.touches_before(i, n), self.spans.touches_at(i, n)) {
+            (true, true) => self.spans.join(i - 1),
+            (true, false) => self.spans.lengthen(i - 1, 1),
+            (false, true) => self.spans.advance(i),
+            (false, false) => {
+                if self.spans.count() == SPANS {
+                    return Err(Refusal::TooManyRuns);
+                }
+                self.spans.insert(i, Span { first: n, len: 1 });
+            }
+        }
+        Ok(())
+    }
 }
 
 pub impl Register for SpanRegister as SpanRegisterRegister {
@@ -49,19 +72,7 @@ pub impl Register for SpanRegister as SpanRegisterRegister {
         if self.spans.covers(n) {
             return Err(Refusal::NumberUsed);
         }
-        let i = self.spans.before(n);
-        match (self.spans.touches_before(i, n), self.spans.touches_at(i, n)) {
-            (true, true) => self.spans.join(i - 1),
-            (true, false) => self.spans.lengthen(i - 1, 1),
-            (false, true) => self.spans.advance(i),
-            (false, false) => {
-                if self.spans.count() == SPANS {
-                    return Err(Refusal::TooManyRuns);
-                }
-                self.spans.insert(i, Span { first: n, len: 1 });
-            }
-        }
-        Ok(())
+        self.add(n)
     }
 
     fn next_run(&self, n: u16) -> Option<(u16, u16)> {
