@@ -1,4 +1,5 @@
 mod Back
 mod Law
 mod Reading
+mod Show
 mod Walk
