@@ -40,7 +40,7 @@ unprinted l text p n =
     (λ f. f)
     (cases-bool (inRange (remark text))))
 
-own : Numerals (Digits 10) (value 10)
+pub own : Numerals (Digits 10) (value 10)
 own = numerals-by-value (Digits 10) tells-digits
 
 -- a number from 1 begins with a digit from 1 to 9

@@ -10,6 +10,7 @@ pub use lines::LinePartialEq;
 pub use lines::read_line;
 pub use lines::write_line;
 pub use text::LineDisplay;
+pub use text::parse_line;
 pub use trough::Phase;
 pub use trough::PhaseDebug;
 pub use trough::PhasePartialEq;
