@@ -1,4 +1,6 @@
 mod Back
 mod Law
+mod Parse
 mod Reading
+mod Show
 mod Walk

@@ -1,4 +1,5 @@
 pub mod Laws
 pub mod Lines
+pub mod Text
 pub mod Trough
 pub mod Verdict

@@ -1,5 +1,6 @@
 //! What a recipe's bytes say, and whether they may be run.
 mod lines;
+mod text;
 mod trough;
 mod verdict;
 
@@ -8,6 +9,8 @@ pub use lines::LineDebug;
 pub use lines::LinePartialEq;
 pub use lines::read_line;
 pub use lines::write_line;
+pub use text::LineDisplay;
+pub use text::parse_line;
 pub use trough::Phase;
 pub use trough::PhaseDebug;
 pub use trough::PhasePartialEq;
