@@ -3,14 +3,12 @@ use crate::Status;
 use crate::fail;
 use crate::input::read_up_to;
 use crate::output::write_whole;
-use crate::plain;
-use crate::plain::Plain;
-use crate::plain::PlainDisplay;
+use recipe::LineDisplay;
+use recipe::parse_line;
 use recipe::read_line;
 use recipe::write_line;
 use refusal::RefusalDisplay;
 use std::error::AnyError;
-use std::fmt;
 use std::io;
 
 /// Prints a lawful recipe line by line, each with its byte place, and then its count and grams.
@@ -42,8 +40,7 @@ fn print_lines(rt: &LibcRuntime, recipe: &[u8], lines: usize) -> io::Result<()> 
         let Some((line, after)) = read_line(rest) else {
             break;
         };
-        let text = Plain(line);
-        println!(rt, "{place} {text}")?;
+        println!(rt, "{place} {line}")?;
         rest = after;
     }
     Ok(())
@@ -65,7 +62,7 @@ pub fn make(rt: &LibcRuntime, words: &[String]) -> Result<Status, AnyError> {
     let mut bytes = Vec::new(rt.alloc());
     for (i, line) in text.as_str().lines().enumerate() {
         let mut buffer = [0; LONGEST_LINE];
-        let size = match plain::parse(line) {
+        let size = match parse_line(line) {
             Some(line) => write_line(line, &mut buffer).ok(),
             None => None,
         };

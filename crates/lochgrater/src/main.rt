@@ -5,7 +5,6 @@ mod input;
 mod judging;
 mod output;
 mod paging;
-mod plain;
 mod speed;
 
 use std::env;
