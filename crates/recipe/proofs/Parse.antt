@@ -1,15 +1,13 @@
 -- Lines from text. Assumes nothing.
 use mathlib.Core.Path.{_≡_, refl, sym, ap, subst, _∙_}
-use mathlib.Core.Bool.{true, false, cond}
+use mathlib.Core.Bool.{true}
 use mathlib.Core.List.{List, [], _∷_, _++_}
 use mathlib.Core.Logic.{⊎-elim}
-use Prim.Native.Nat.{ℕ, _<_, _≤_, _^_}
+use Prim.Native.Nat.{ℕ, suc, _<_, _≤_, _^_}
 use native.Mathlib.Omega.{arith}
 use denote.Ref.{RefT}
-use lib.Chars.{codes}
 use lib.Dec.{leb}
-use lib.ListN.{length, getD}
-use Rattle.std.specs.Options.{Cases}
+use lib.ListN.{length, getD, drop}
 use Rattle.std.specs.Written.{decimal}
 use Rattle.std.specs.declared.option.Option.{Option}
 use Rattle.std.specs.declared.option.Option.the-variants.{Some, None}
@@ -19,7 +17,7 @@ use Rattle.std.proofs.shelf.Patterns.{SplitAt, split-after, split-parts}
 use Rattle.std.proofs.shelf.Results.{cases-at-some, cases-at-none}
 use Rattle.std.proofs.shelf.Tests.{leb-true, and-parts, cond-true, cond-false, cases-bool, false≢true}
 use Rattle.recipe.specs.Lines.{Entry, dose, mix, empty, remark, within, inRange}
-use Rattle.recipe.specs.Text.{fieldsOf, textOf, inRangeOnly, Parsed, Dosing, Mixing}
+use Rattle.recipe.specs.Text.{fieldsOf, textOf, inRangeOnly, Parsed, Any, Dosing, Mixing, TextBack}
 use Rattle.recipe.proofs.Show.{own}
 
 between : (low high n : ℕ) → within low high n ≡ true → (low ≤ n) × (n ≤ high)
@@ -103,3 +101,50 @@ module _ (bs : List ℕ) (r : Option (RefT (List ℕ) × RefT (List ℕ))) (h : 
   no-grams x p n (mix seconds) k t q = k
   no-grams x p n empty k t q = k
   no-grams x p n (remark text) k t q = k
+
+-- two texts around their first space
+NoSpace : List ℕ → Type 0
+NoSpace xs = (i : ℕ) → i < length xs → getD xs i 0 ≡ 32 → ⊥
+
+at-space : (xs us ys vs : List ℕ) → NoSpace xs → NoSpace us → xs ++ (32 ∷ ys) ≡ us ++ (32 ∷ vs) → (xs ≡ us) × (ys ≡ vs)
+unfolding NoSpace
+at-space [] [] ys vs h k p = (refl, cc)
+at-space [] (u ∷ us) ys vs h k p = absurd (k 0 (omega arith) (sym (ap (λ l. getD l 0 0) p)))
+at-space (x ∷ xs) [] ys vs h k p = absurd (h 0 (omega arith) (ap (λ l. getD l 0 0) p))
+at-space (x ∷ xs) (u ∷ us) ys vs h k p =
+    let rest = at-space xs us ys vs (λ i l. h (suc i) (omega arith)) (λ i l. k (suc i) (omega arith)) (ap (drop 1) p) in
+    let first = ap (λ l. getD l 0 0) p in
+    ((λ i. first i ∷ rest .0 i), rest .1)
+
+-- no two lines in range have one text
+one-text : (e f : Entry) → inRange e ≡ true → inRange f ≡ true → textOf e ≡ textOf f → e ≡ f
+unfolding NoSpace
+one-text (dose b g) (dose bin grams) s t p =
+    let r = dose-range b g s in
+    let q = dose-range bin grams t in
+    let parts = at-space (decimal b) (decimal bin) (decimal g) (decimal grams) (no-space b (omega (arith, r .1))) (no-space bin (omega (arith, q .1))) (ap (drop 5) p) in
+    let sb = same-from-decimal b bin (omega (arith, r .1)) (omega (arith, q .1)) (parts .0) in
+    let sg = same-from-decimal g grams (omega (arith, r .3)) (omega (arith, q .3)) (parts .1) in
+    λ i. dose (sb i) (sg i)
+one-text (dose b g) (mix seconds) s t p = absurd (omega (arith, ap (λ l. getD l 0 0) p))
+one-text (dose b g) empty s t p = absurd (omega (arith, ap (λ l. getD l 0 0) p))
+one-text (dose b g) (remark text) s t p = absurd (omega (arith, ap (λ l. getD l 0 0) p))
+one-text (mix n) (dose bin grams) s t p = absurd (omega (arith, ap (λ l. getD l 0 0) p))
+one-text (mix n) (mix seconds) s t p =
+    let r = between 1 3_600 n s in
+    let q = between 1 3_600 seconds t in
+    ap mix (same-from-decimal n seconds (omega (arith, r .1)) (omega (arith, q .1)) (ap (drop 4) p))
+one-text (mix n) empty s t p = absurd (omega (arith, ap (λ l. getD l 0 0) p))
+one-text (mix n) (remark text) s t p = absurd (omega (arith, ap (λ l. getD l 0 0) p))
+one-text empty (dose bin grams) s t p = absurd (omega (arith, ap (λ l. getD l 0 0) p))
+one-text empty (mix seconds) s t p = absurd (omega (arith, ap (λ l. getD l 0 0) p))
+one-text empty empty s t p = refl
+one-text empty (remark text) s t p = absurd (omega (arith, ap (λ l. getD l 0 0) p))
+one-text (remark a) (dose bin grams) s t p = absurd (omega (arith, ap (λ l. getD l 0 0) p))
+one-text (remark a) (mix seconds) s t p = absurd (omega (arith, ap (λ l. getD l 0 0) p))
+one-text (remark a) empty s t p = absurd (omega (arith, ap (λ l. getD l 0 0) p))
+one-text (remark a) (remark text) s t p = ap remark (ap (drop 7) p)
+
+pub text-back : (bs : List ℕ) (r : Option Entry) → Parsed Any textOf bs r → TextBack bs r
+text-back bs None h e t p = absurd (h e tt t p)
+text-back bs (Some f) h e t p = ap Some (one-text f e (h .1) t (sym (h .2) ∙ p))

@@ -2,10 +2,10 @@
 -- Assumes nothing.
 use mathlib.Core.Path.{_≡_}
 use mathlib.Core.Bool.{true, cond}
-use mathlib.Core.List.{List, [], _∷_, _++_}
+use mathlib.Core.List.{List, [], _++_}
 use Prim.Native.Nat.{ℕ, _<_, _≤_}
 use lib.Chars.{codes}
-use Rattle.std.specs.Options.{Cases, mapped}
+use Rattle.std.specs.Options.{Cases}
 use Rattle.std.specs.Written.{decimal}
 use Rattle.std.specs.declared.option.Option.{Option}
 use Rattle.std.specs.declared.option.Option.the-variants.{Some, None}
@@ -61,3 +61,7 @@ Remarking (remark text) = Unit {0}
 
 abbrev pub inRangeOnly : Entry → Option Entry
 inRangeOnly e = cond (inRange e) (Some e) None
+
+-- the text of a line reads as that line
+abbrev pub TextBack : List ℕ → Option Entry → Type 0
+TextBack bs r = (e : Entry) → inRange e ≡ true → bs ≡ textOf e → r ≡ Some e

@@ -2,7 +2,6 @@
 ghost use mathlib.Core.Path.{_≡_};
 ghost use Prim.Native.Nat.{_+_, _≤_};
 ghost use lib.ListN.{length, getD};
-ghost use Rattle.std.specs.Options.{mapped};
 ghost use Rattle.recipe.specs.Lines.{says, gramsOf, given, inRange, printable, allPrintable, whole, doseIn, mixIn, remarkIn, readLine, Told};
 ghost use Rattle.recipe.specs.Lines.{bytesOf, remark, covering, covered, writing, written, ReadBack};
 use refusal::Refusal;

@@ -174,3 +174,57 @@ fn unwritten_lines() -> Result<(), Fail> {
     unwritten(Line::Remark(b"a"), Refusal::BufferTooShort)?;
     unwritten(Line::Remark(b"\n"), Refusal::BadLine(0))
 }
+
+/// Texts of lines.
+const TEXTS: [&str; 8] = [
+    "dose 1 1",
+    "dose 32 2000000",
+    "mix 1",
+    "mix 3600",
+    "empty",
+    "remark  ",
+    "remark dose 1 1",
+    "remark aaaaaaaaaaaaaaaaaaaaaaaaaaaaaaaaaaaaaaaaaaaaaaaaaaaaaaaaaaaaaaaaaaaaaaaaaaaaaaaa",
+];
+
+/// Texts of no line.
+const NO_TEXTS: [&str; 24] = [
+    "",
+    "dose",
+    "dose 1",
+    "dose 1 ",
+    "dose 1 1 1",
+    "dose 1  1",
+    "dose 0 1",
+    "dose 33 1",
+    "dose 1 0",
+    "dose 1 2000001",
+    "dose 1 4294967297",
+    "dose 257 1",
+    "dose 01 1",
+    "dose +1 1",
+    "dose -1 1",
+    "mix",
+    "mix 0",
+    "mix 3601",
+    "empty ",
+    "Empty",
+    "remark",
+    "remark ",
+    "remark \t",
+    "remark aaaaaaaaaaaaaaaaaaaaaaaaaaaaaaaaaaaaaaaaaaaaaaaaaaaaaaaaaaaaaaaaaaaaaaaaaaaaaaaaa",
+];
+
+#[test]
+fn texts_of_lines(rt: LibcRuntime) -> Result<(), Fail> {
+    for text in TEXTS {
+        let Some(line) = parse_line(text) else {
+            return Err(Fail::new(text));
+        };
+        check_eq(line.to_string(rt.alloc())?.as_str(), text)?;
+    }
+    for text in NO_TEXTS {
+        check(parse_line(text).is_none()).note(text)?;
+    }
+    Ok(())
+}

@@ -2,7 +2,7 @@
 ghost use mathlib.Core.Path.{_≡_};
 ghost use lib.ListN.{getD};
 ghost use Rattle.recipe.specs.Lines.{says, within};
-ghost use Rattle.recipe.specs.Text.{textOf, fieldsOf, printed, Numbered, inRangeOnly, Parsed, Any, Dosing, Mixing, Remarking};
+ghost use Rattle.recipe.specs.Text.{textOf, fieldsOf, printed, Numbered, inRangeOnly, Parsed, Any, Dosing, Mixing, Remarking, TextBack};
 ghost use Rattle.std.specs.Options.{mapped};
 use crate::lines::Line;
 use std::fmt;
@@ -75,7 +75,8 @@ fn parse_remark(fields: &str) -> Option<Line<'_>>
 
 /// The line that a plain text writes, or `None` if it writes none.
 pub fn parse_line(text: &str) -> Option<Line<'_>>
-    ensures { λ r. ⌜ Parsed Any textOf (now (text .entry)) (mapped says r) ⌝ }
+    ensures value { λ r. ⌜ Parsed Any textOf (now (text .entry)) (mapped says r) ⌝ }
+    ensures back { λ r. ⌜ TextBack (now (text .entry)) (mapped says r) ⌝ }
 {
     if text == "empty" {
         Some(Line::Empty)

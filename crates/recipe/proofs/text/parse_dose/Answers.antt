@@ -2,7 +2,6 @@ use mathlib.Core.Path.{ap, _∙_}
 use mathlib.Core.List.{_∷_, _++_}
 use native.Mathlib.Omega.{arith}
 use Rattle.std.specs.Options.{mapped}
-use Rattle.std.specs.Written.{decimal}
 use Rattle.recipe.specs.Lines.{dose, says}
 use Rattle.recipe.specs.Text.{fieldsOf, Dosing}
 use Rattle.recipe.proofs.Parse.{none-parsed, one-parsed, unsplit, no-bin, no-grams, joined-dose, only-dose}
