@@ -1,4 +1,7 @@
 //! Runs test vectors in the layout of the designers' known-answer files: blocks of lines `NAME = VALUE`, a blank line after each.
+//!
+//! The files in `data/` were computed by an independent model of the published text. They are a cross-check of two
+//! implementations, not the designers' word; the designers' own files run here unchanged.
 mod hashes;
 mod layout;
 mod sealings;
