@@ -13,7 +13,6 @@ use Rattle.refusal.specs.declared.Refusal.the-variants.{BufferTooShort, TooMany
 use Rattle.std.proofs.shelf.Bits.{mod-mul-add, div-mul-add}
 use Rattle.std.proofs.shelf.Lists.{getD-drop}
 use Rattle.std.proofs.shelf.Tests.{cases-bool, and-parts, and-from, le-leb, leb-true, eq-eqb, eqb-true, cond-true, cond-false, le-ltb, lt-ltb}
-use Rattle.std.proofs.shelf.Ways.{tells}
 use Rattle.std.specs.Joined.{joined}
 use Rattle.std.specs.Options.{isSome}
 use Rattle.std.specs.Results.{isOk}
@@ -128,14 +127,6 @@ faultless bs e =
     })
     (λ w. absurd (mathlib.Core.Bool.true≢false (ap isSome (sym (cond-false (whole-page bs) _ _ w) ∙ e))))
     (cases-bool (whole-page bs))
-
--- the page of a set, from pairs that are apart and cover it
-pub page-of-pairs : (u : Numbers) (ps : List Pair) → apart 0 ps ≡ true → ((k : ℕ) → u k ≡ covered ps k) → page u ≡ word (length ps) ++ joined pair-bytes ps
-page-of-pairs u ps h same = ap (λ rs. word (length rs) ++ joined pair-bytes rs) (ap runs (fun-ext same) ∙ runs-covered ps h)
-
--- the page of the numbers 0, 1, 2 and 7
-pub page-of-four : page (λ n. eqb n 0 || (eqb n 1 || (eqb n 2 || eqb n 7))) ≡ 2 ∷ 0 ∷ 0 ∷ 0 ∷ 3 ∷ 0 ∷ 7 ∷ 0 ∷ 1 ∷ 0 ∷ []
-page-of-four = page-of-pairs (λ n. eqb n 0 || (eqb n 1 || (eqb n 2 || eqb n 7))) ((0, 3) ∷ (7, 1) ∷ []) refl (λ k. grind (arith, tells))
 
 -- a faultless page is the page of its numbers
 pub page-back : (bs : List ℕ) → Faultless bs → ((k : ℕ) → getD bs k 0 < 256) → page (covered (page-pairs bs)) ≡ bs
