@@ -1,4 +1,6 @@
 //! PHOTON-Beetle: hash and authenticated encryption, written once for every engine and every lawful rate.
+#![tactic(auto)]
+
 mod absorbing;
 mod blocks;
 mod hashing;

@@ -1,5 +1,7 @@
 //! Sealing, opening and hashing over the table engine, for C and Rust to link: each answers 0 where it is granted, else
 //! the refusal's number.
+#![tactic(auto)]
+
 ghost use Rattle.std.specs.Prelude.{◌≡◌};
 ghost use Rattle.beetle.specs.Hashing.{hash_outcome};
 ghost use Rattle.beetle.specs.Opening.{open_outcome};

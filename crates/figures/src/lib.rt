@@ -1,4 +1,6 @@
 //! The figures that were worked on paper, proved as one table.
+#![tactic(auto)]
+
 ghost use Rattle.std.specs.Prelude.{◌≡◌};
 ghost use Rattle.figures.specs.Worked.{Worked};
 

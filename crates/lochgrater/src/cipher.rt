@@ -55,7 +55,7 @@ fn with_secrets(rt: &HostRuntime, work: Work, words: &Words<'_>) -> anyhow::Resu
         return crate::usage(rt);
     };
     let ad = match words.ad {
-        words::Given::Word(text) => match hex::decode(heap, text)? {
+        words::Given::Word(text) => match hexadecimal::decode(heap, text)? {
             Some(bytes) => bytes,
             None => return crate::usage(rt),
         },

@@ -27,7 +27,7 @@ fn hash_file(rt: &HostRuntime, name: &str) -> anyhow::Result<Status> {
     if let Err(refusal) = beetle::hash(&TableEngine, text.as_slice(), &mut digest) {
         return fail(rt, name, refusal);
     }
-    let shown = hex::encode(rt.alloc(), &digest)?;
+    let shown = hexadecimal::encode(rt.alloc(), &digest)?;
     println!(rt; "{shown}  {name}")?;
     Ok(Status::Done)
 }

@@ -1,4 +1,6 @@
 //! The program: thin, everything that matters is in the libraries.
+#![tactic(auto)]
+
 mod cipher;
 mod hashing;
 mod input;

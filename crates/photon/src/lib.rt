@@ -1,4 +1,6 @@
 //! Permutation engines: the 32-byte state of a sponge, and what replaces it.
+#![tactic(auto)]
+
 mod bench;
 mod cell;
 mod table;

@@ -1,4 +1,6 @@
 //! What a recipe's bytes say, and whether they may be run.
+#![tactic(auto)]
+
 mod lines;
 mod text;
 mod trough;

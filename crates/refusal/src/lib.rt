@@ -1,4 +1,6 @@
 //! Why a call refuses. One enum for every layer; each case has a number, a layer and a byte place.
+#![tactic(auto)]
+
 ghost use Rattle.std.specs.Prelude.{◌≡◌, Some};
 ghost use Rattle.refusal.specs.Line.{layer_name, reason_of, line};
 ghost use Rattle.refusal.specs.Told.{told};

@@ -1,4 +1,6 @@
 //! Which card numbers, 0 to 4,095, are used: two registers behind one trait, and the number page.
+#![tactic(auto)]
+
 ghost use Rattle.std.specs.Prelude.{◌≡◌, ℕ, ◌<◌, ◌≤◌, true};
 ghost use Rattle.register.specs.Marked.{mark_answer, mark_after};
 ghost use Rattle.register.specs.Runs.{FirstRun, Meaning, next_run};

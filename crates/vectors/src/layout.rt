@@ -32,7 +32,7 @@ impl Vector {
             self.count = String::from_str(heap, value)?;
             return Ok(());
         }
-        match hex::decode(heap, value)? {
+        match hexadecimal::decode(heap, value)? {
             Some(bytes) => {
                 self.fields.insert(String::from_str(heap, name)?, bytes)?;
                 Ok(())

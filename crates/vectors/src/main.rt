@@ -2,6 +2,8 @@
 //!
 //! The files in `data/` were computed by an independent model of the published text. They are a cross-check of two
 //! implementations, not the designers' word; the designers' own files run here unchanged.
+#![tactic(auto)]
+
 mod hashes;
 mod layout;
 mod sealings;

@@ -117,7 +117,7 @@ pub fn sixteen(bytes: &[u8]) -> Option<[u8; 16]> {
 
 /// The sixteen bytes of 32 hexadecimal digits, or `None`.
 pub fn sixteen_from_hex(heap: Global, text: &str) -> Result<Option<[u8; 16]>, AllocError> {
-    match hex::decode(heap, text)? {
+    match hexadecimal::decode(heap, text)? {
         Some(bytes) => Ok(sixteen(bytes.as_slice())),
         None => Ok(None),
     }

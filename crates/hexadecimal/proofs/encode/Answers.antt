@@ -1,8 +1,8 @@
 use Rattle.std.proofs.Common.{◌≡◌, ℕ, ◌/◌, ◌%◌, List, [], ◌∷◌, ◌++◌, get_or, take, sym, ap, ◌∙◌, append_assoc, arith}
 use Rattle.std.proofs.lemmas.List.{flat_map_more, take_more, take_all}
 use Rattle.std.proofs.lemmas.Slice.{pushed}
-use Rattle.hex.specs.Hex.{digit, digits, hex_of}
-use Rattle.hex.proofs.encode.Goals as goal
+use Rattle.hexadecimal.specs.Hex.{digit, digits, hex_of}
+use Rattle.hexadecimal.proofs.encode.Goals as goal
 
 -- two pushes add the digits of one more byte
 one_more : (xs : List ℕ) (b h l : ℕ) (text p q : List ℕ) → text ≡ (hex_of xs ++ p) ++ q → p ≡ h ∷ [] → q ≡ l ∷ [] → h ≡ digit (b / 16) → l ≡ digit (b % 16) → text ≡ hex_of (xs ++ b ∷ [])

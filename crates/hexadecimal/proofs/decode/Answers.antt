@@ -1,8 +1,8 @@
 use Rattle.std.proofs.Common.{◌≡◌, ℕ, ◌+◌, ◌-◌, ◌*◌, ◌<◌, List, [], ◌∷◌, ◌++◌, length, get_or, take, drop, vec_items, sym, refl, ap, ◌∙◌, subst, arith, ltb-false}
 use Rattle.std.proofs.lemmas.List.{drop_more, take_rest}
 use Rattle.std.proofs.lemmas.Slice.{pushed}
-use Rattle.hex.proofs.Reading.{Read, read_none, read_more}
-use Rattle.hex.proofs.decode.Goals as goal
+use Rattle.hexadecimal.proofs.Reading.{Read, read_none, read_more}
+use Rattle.hexadecimal.proofs.decode.Goals as goal
 
 pub loop-rest-init : goal.loop-rest-init
 loop-rest-init c =

@@ -1,6 +1,8 @@
 //! Bytes as hexadecimal text, two digits a byte.
+#![tactic(auto)]
+
 ghost use Rattle.std.specs.Prelude.{◌≡◌, ◌+◌, ◌*◌, ◌<◌, List, IfOk, Some, None, string_bytes, MatchOption};
-ghost use Rattle.hex.specs.Hex.{digit, hex_of, digit_value, bytes_of};
+ghost use Rattle.hexadecimal.specs.Hex.{digit, hex_of, digit_value, bytes_of};
 
 use std::alloc::{AllocError, Global};
 
