@@ -12,7 +12,7 @@ use refusal::Refusal;
 
 /// How many runs the register has.
 fn count_runs<R: Register>(register: &R) -> u16
-    ensures { result ≡ run_count (meaning register.now).used }
+    ensures { result ≡ run_count (R.meaning register.now).used }
 {
     let mut count = 0;
     let mut from = 0;
@@ -43,8 +43,8 @@ fn put_run(out: &mut [u8], place: usize, first: u16, len: u16)
 
 /// Writes the register's runs behind the first two bytes.
 fn put_runs<R: Register>(register: &R, out: &mut [u8])
-    requires { 2 + 4 * run_count (meaning register.now).used ≤ length out.old }
-    ensures { out.new ≡ take 2 out.old ++ (flat_map pair_bytes (runs (meaning register.now).used) ++ drop (2 + 4 * run_count (meaning register.now).used) out.old) }
+    requires { 2 + 4 * run_count (R.meaning register.now).used ≤ length out.old }
+    ensures { out.new ≡ take 2 out.old ++ (flat_map pair_bytes (runs (R.meaning register.now).used) ++ drop (2 + 4 * run_count (R.meaning register.now).used) out.old) }
 {
     let mut place = 2;
     let mut from = 0;
@@ -57,8 +57,8 @@ fn put_runs<R: Register>(register: &R, out: &mut [u8])
 
 /// Writes the register's number page, and answers its length. Bytes past the page are left.
 pub fn write<R: Register>(register: &R, out: &mut [u8]) -> Result<usize, Refusal>
-    ensures answer { result ≡ write_answer (meaning register.now).used out.old }
-    ensures after { out.new ≡ write_after (meaning register.now).used out.old }
+    ensures answer { result ≡ write_answer (R.meaning register.now).used out.old }
+    ensures after { out.new ≡ write_after (R.meaning register.now).used out.old }
     ensures law { PagesTellSets }
 {
     let count = count_runs(register);
@@ -129,10 +129,10 @@ fn page_fault(page: &[u8]) -> Option<usize>
 fn mark_pair<R: Register>(register: &mut R, page: &[u8], i: usize) -> Result<(), Refusal>
     requires sound { Faultless page.now }
     requires pair { i < page_count page.now }
-    requires room { page_count page.now ≤ (meaning register.old).limit }
-    requires earlier { (meaning register.old).used ≡ covered (take i (page_pairs page.now)) }
+    requires room { page_count page.now ≤ (R.meaning register.old).limit }
+    requires earlier { (R.meaning register.old).used ≡ covered (take i (page_pairs page.now)) }
     ensures granted { result ≡ Ok tt }
-    ensures after { meaning register.new ≡ with_pairs (meaning register.old) (take (i + 1) (page_pairs page.now)) }
+    ensures after { R.meaning register.new ≡ with_pairs (R.meaning register.old) (take (i + 1) (page_pairs page.now)) }
 {
     let (first, len) = pair_at(page, i);
     let end = first + len;
@@ -146,10 +146,10 @@ fn mark_pair<R: Register>(register: &mut R, page: &[u8], i: usize) -> Result<(),
 fn mark_pairs<R: Register>(register: &mut R, page: &[u8], count: usize) -> Result<(), Refusal>
     requires sound { Faultless page.now }
     requires count { count ≡ page_count page.now }
-    requires room { page_count page.now ≤ (meaning register.old).limit }
-    requires blank { (meaning register.old).used ≡ covered [] }
+    requires room { page_count page.now ≤ (R.meaning register.old).limit }
+    requires blank { (R.meaning register.old).used ≡ covered [] }
     ensures granted { result ≡ Ok tt }
-    ensures after { meaning register.new ≡ with_pairs (meaning register.old) (page_pairs page.now) }
+    ensures after { R.meaning register.new ≡ with_pairs (R.meaning register.old) (page_pairs page.now) }
 {
     for i in 0..count {
         mark_pair(register, page, i)?;
@@ -159,9 +159,9 @@ fn mark_pairs<R: Register>(register: &mut R, page: &[u8], count: usize) -> Resul
 
 /// Gives a blank register the numbers of a page, or refuses and changes nothing.
 pub fn load<R: Register>(register: &mut R, page: &[u8]) -> Result<(), Refusal>
-    ensures answer { result ≡ load_answer (meaning register.old) page.now }
-    ensures after { meaning register.new ≡ load_after (meaning register.old) page.now }
-    ensures back { result ≡ Ok tt → page_of (meaning register.new).used ≡ page.now }
+    ensures answer { result ≡ load_answer (R.meaning register.old) page.now }
+    ensures after { R.meaning register.new ≡ load_after (R.meaning register.old) page.now }
+    ensures back { result ≡ Ok tt → page_of (R.meaning register.new).used ≡ page.now }
     ensures written { WrittenPagesLoad }
     ensures blank { BlankIsEmpty }
 {

@@ -4,7 +4,7 @@ ghost use Rattle.register.specs.Marked.{mark_answer, mark_after};
 ghost use Rattle.register.specs.Runs.{apart, blank_register, covered};
 ghost use Rattle.register.specs.Spans.{listed, span_meaning};
 ghost use Rattle.register.specs.Cover.{covered_small};
-ghost use Rattle.std.proofs.Common.{rules, arith};
+ghost use Rattle.std.proofs.Common.{rules};
 
 use crate::spans::{SPANS, Span, Spans};
 use crate::{NUMBERS, Register};
@@ -60,7 +60,7 @@ impl Register for SpanRegister {
 
     ghost below = { λ s n e. covered_small 0 (listed s.spans) s.ordered n e };
 
-    ghost roomy = { first_pair (Prim.search rules, Prim.grind (arith, Self.row.coded.inj)) };
+    ghost roomy = { Prim.search rules };
 
     fn ask(&self, n: u16) -> bool {
         self.spans.covers(n)

@@ -7,7 +7,7 @@ use Rattle.hexadecimal.proofs.decode.Goals as goal
 pub loop-rest-init : goal.loop-rest-init
 loop-rest-init c =
     let start : Read c.args.text.now [] c.args.text.now = read_none c.args.text.now in
-    subst (λ (r : List ℕ). Read c.args.text.now (vec_items c.new-bytes.result) r) (sym c.as-bytes-rest.ensures.value)
+    subst (λ (r : List ℕ). Read c.args.text.now (vec_items c.new-bytes.result) r) (sym c.as_bytes-rest.ensures.value)
     (subst (λ (xs : List ℕ). Read c.args.text.now xs c.args.text.now) (sym c.new-bytes.ensures.items) start)
 
 -- a list of two and more, written out
@@ -21,7 +21,7 @@ loop-rest-preserved c =
     let bytes = vec_items c.loop-rest.bytes in
     let high = c.in-Some-Some.high in
     let low = c.in-Some-Some.low in
-    let grown : vec_items c.push.new.self ≡ bytes ++ (16 * high + low) ∷ [] = pushed ((16 * high + low) ∷ []) refl c.in-ok-push.was c.push.ensures.items in
+    let grown : vec_items c.push.new.self ≡ bytes ++ (16 * high + low) ∷ [] = pushed ((16 * high + low) ∷ []) refl c.in_ok-push.was c.push.ensures.items in
     let opened = subst (λ (l : List ℕ). Read text bytes l) (two_up rest (omega (arith, ltb-false))) c.loop-rest.invariant in
     let next = read_more text bytes (get_or rest 0 0) (get_or rest 1 0) (drop 2 rest) high low (sym c.in-Some-Some.ensures) (sym c.in-Some-Some.ensures') opened in
     subst (λ (l : List ℕ). Read text (vec_items c.push.new.self) l) (sym (take_rest rest 2))

@@ -16,13 +16,13 @@ pub loop-b-preserved : goal.loop-b-preserved
 loop-b-preserved c =
     let bytes = c.args.bytes.now in
     let i = c.loop-b.b-index in
-    let one = pushed _ c.loop-b.invariant c.in-ok-push.was c.push.ensures.bytes in
-    let two = pushed _ one c.in-ok-push-2.was c.push-in-loop-b.ensures.bytes in
+    let one = pushed _ c.loop-b.invariant c.in_ok-push.was c.push.ensures.bytes in
+    let two = pushed _ one c.in_ok-push-2.was c.push-in-loop-b.ensures.bytes in
     one_more (take i bytes) (get_or bytes i 0) _ _ _ _ _ two
-    (c.push.ensures.ascii c.digit-of.ensures.ascii)
-    (c.push-in-loop-b.ensures.ascii c.digit-of-in-loop-b.ensures.ascii)
-    c.digit-of.ensures.value
-    c.digit-of-in-loop-b.ensures.value
+    (c.push.ensures.ascii c.digit_of.ensures.ascii)
+    (c.push-in-loop-b.ensures.ascii c.digit_of-in-loop-b.ensures.ascii)
+    c.digit_of.ensures.value
+    c.digit_of-in-loop-b.ensures.value
     ∙ ap hex_of (sym (take_more bytes i 0 (omega arith)))
 
 pub returns : goal.returns

@@ -4,14 +4,14 @@ use Rattle.beetle.specs.Blocks.{xored, padded, absorbed}
 use Rattle.beetle.proofs.Cuts.{absorbed_none, absorbed_more}
 use Rattle.beetle.proofs.absorbing.absorb.Goals as goal
 
-pub absorb-block-requires : goal.absorb-block-requires
-absorb-block-requires g c = c.first-block.ensures.within
+pub absorb_block-requires : goal.absorb_block-requires
+absorb_block-requires g c = c.first_block.ensures.within
 
 pub loop-rest-smaller : goal.loop-rest-smaller
 loop-rest-smaller g c =
     let left = eqb-false _ 0 (sym c.loop-rest-test.ensures) in
-    let some = c.first-block.ensures.some (omega arith) in
-    omega (arith, c.first-block.ensures.whole)
+    let some = c.first_block.ensures.some (omega arith) in
+    omega (arith, c.first_block.ensures.whole)
 
 pub loop-rest-preserved : goal.loop-rest-preserved
 loop-rest-preserved g c =
@@ -21,8 +21,8 @@ loop-rest-preserved g c =
     let D = c.loop-rest.rest.now in
     let left = eqb-false _ 0 (sym c.loop-rest-test.ensures) in
     let least = g.met.R.Rate.least in
-    let parts = c.first-block.ensures in
-    (λ i. absorbed P r (c.absorb-block.ensures i) (parts.rest i))
+    let parts = c.first_block.ensures in
+    (λ i. absorbed P r (c.absorb_block.ensures i) (parts.rest i))
     ∙ ap (λ B. absorbed P r (xored (P S) (padded r B)) (drop r D)) parts.block
     ∙ sym (absorbed_more P r S D (omega arith) (omega arith))
     ∙ c.loop-rest.invariant

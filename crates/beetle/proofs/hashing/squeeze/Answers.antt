@@ -18,6 +18,6 @@ returns g c =
     let one : c.permute.new.state ≡ P S = c.permute.ensures in
     let two : c.permute-2.new.state ≡ P (P S) = c.permute-2.ensures ∙ ap P one in
     let long : length (take 16 B) ≡ 16 = length-take-le 16 B (omega arith) in
-    halves _ _ B (c.copy-from-slice.ensures.len ∙ long)
-    ∙ (λ i. (c.copy-from-slice.ensures.after i ++ c.copy-from-slice-2.ensures.after i) ++ drop 32 B)
+    halves _ _ B (c.copy_from_slice.ensures.len ∙ long)
+    ∙ (λ i. (c.copy_from_slice.ensures.after i ++ c.copy_from_slice-2.ensures.after i) ++ drop 32 B)
     ∙ (λ i. (take 16 (one i) ++ take 16 (two i)) ++ drop 32 B)

@@ -10,8 +10,8 @@ loop-rest-init g c = going_none _ _ _ c.args.state.now c.args.text.now c.args.ou
 pub loop-rest-smaller : goal.loop-rest-smaller
 loop-rest-smaller g c =
     let left = eqb-false _ 0 (sym c.loop-rest-test.ensures) in
-    let some = c.first-block.ensures.some (omega arith) in
-    omega (arith, c.first-block.ensures.whole)
+    let some = c.first_block.ensures.some (omega arith) in
+    omega (arith, c.first_block.ensures.whole)
 
 pub loop-rest-preserved : goal.loop-rest-preserved
 loop-rest-preserved g c =
@@ -20,19 +20,19 @@ loop-rest-preserved g c =
     let S = c.loop-rest.state in
     let B = c.loop-rest.out in
     let at = c.loop-rest.at in
-    let n = length c.first-block.result.0.now in
+    let n = length c.first_block.result.0.now in
     let left = eqb-false _ 0 (sym c.loop-rest-test.ensures) in
     let least = g.met.R.Rate.least in
-    let parts = c.first-block.ensures in
+    let parts = c.first_block.ensures in
     let whole = parts.whole in
     let count = c.loop-rest.invariant.count in
     let kept = c.loop-rest.auto.out in
     let fits : at + n ≤ length B = omega arith in
     let part : length (take (at + n - at) (drop at B)) ≡ n = simp (length-take, length-drop) (omega arith) in
     going_more P (rho_back r) r _ _ _ S c.loop-rest.rest.now B at (at + n - at) n _ _ _ c.loop-rest.invariant
-    (omega arith) (omega arith) (omega arith) (c.open-block.auto.out ∙ part) (omega arith) whole
-    (c.open-block.ensures.state ∙ ap (λ U. (rho_back r (P S) U).state) parts.block)
-    (c.open-block.ensures.text ∙ ap (λ U. (rho_back r (P S) U).text) parts.block)
+    (omega arith) (omega arith) (omega arith) (c.open_block.auto.out ∙ part) (omega arith) whole
+    (c.open_block.ensures.state ∙ ap (λ U. (rho_back r (P S) U).state) parts.block)
+    (c.open_block.ensures.text ∙ ap (λ U. (rho_back r (P S) U).text) parts.block)
     parts.rest
 
 pub returns : goal.returns

@@ -10,7 +10,7 @@ use Rattle.photon.proofs.cell.field_times.Goals.{then-a-k-eq1, else-a-k-eq1}
 pub loop-k-init : goal.loop-k-init
 loop-k-init c = (digits_none c.args.a c.args.b, c.requires)
 
-summed : (c : goal.After-times-z-power) → c.if-a-k-eq1.sum ≡ cond (eqb (c.args.a / 2 ^ c.loop-k.k % 2) 1) (bit_xor c.loop-k.sum c.loop-k.power) c.loop-k.sum
+summed : (c : goal.After-times_z-power) → c.if-a-k-eq1.sum ≡ cond (eqb (c.args.a / 2 ^ c.loop-k.k % 2) 1) (bit_xor c.loop-k.sum c.loop-k.power) c.loop-k.sum
 summed c =
     elim c.if-a-k-eq1.branch [
       | then-a-k-eq1 w ↦ w.sum-is ∙ sym (cond-true _ _ _ (eq-eqb _ _ w.if-a-k-eq1.true))
@@ -19,9 +19,9 @@ summed c =
 
 pub loop-k-preserved : goal.loop-k-preserved
 loop-k-preserved c =
-    let told = c.times-z-power.ensures in
+    let told = c.times_z-power.ensures in
     let next = digits_more c.args.a c.args.b c.loop-k.k c.loop-k.sum c.loop-k.power c.loop-k-test.true c.loop-k.invariant.0 in (
-      subst (λ (n : ℕ). Digits c.args.a c.args.b (c.loop-k.k + 1) n c.times-z-power.result) (sym (summed c))
+      subst (λ (n : ℕ). Digits c.args.a c.args.b (c.loop-k.k + 1) n c.times_z-power.result) (sym (summed c))
           (subst (λ (n : ℕ). Digits c.args.a c.args.b (c.loop-k.k + 1) (cond (eqb (c.args.a / 2 ^ c.loop-k.k % 2) 1) (bit_xor c.loop-k.sum c.loop-k.power) c.loop-k.sum) n) (sym told) next),
       subst (λ (n : ℕ). n < 16) (sym told) (times_z_small c.loop-k.power c.loop-k.invariant.1),
     )

@@ -8,7 +8,7 @@ use Rattle.photon.proofs.cell.last_cell.Goals as goal
 
 pub loop-i-preserved : goal.loop-i-preserved
 loop-i-preserved c =
-    subst (λ (n : ℕ). Cellwise last_row c.args.c.now (c.loop-i.i + 1) (bit_xor c.loop-i.sum n)) (sym c.field-times-sum.ensures)
+    subst (λ (n : ℕ). Cellwise last_row c.args.c.now (c.loop-i.i + 1) (bit_xor c.loop-i.sum n)) (sym c.field_times-sum.ensures)
     (cellwise_more last_row c.args.c.now c.loop-i.i c.loop-i.sum (omega arith) (omega arith) c.loop-i.invariant)
 
 pub returns : goal.returns

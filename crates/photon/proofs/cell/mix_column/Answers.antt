@@ -7,12 +7,12 @@ use Rattle.photon.proofs.cell.mix_column.Goals as goal
 pub loop-init : goal.loop-init
 loop-init c = (refl, c.requires)
 
-pub times-m-next-requires : goal.times-m-next-requires
-times-m-next-requires c = c.loop.invariant.1
+pub times_m-next-requires : goal.times_m-next-requires
+times_m-next-requires c = c.loop.invariant.1
 
 pub loop-preserved : goal.loop-preserved
 loop-preserved c =
-    let told = c.times-m-next.ensures in (
+    let told = c.times_m-next.ensures in (
       told ∙ ap by_m c.loop.invariant.0 ∙ ap (λ n. by_ms n c.args.c) (sym (add-one c.loop.counter)),
       subst Nibbles (sym told) (small_by_m c.loop.mixed c.loop.invariant.1),
     )

@@ -6,15 +6,15 @@ use Rattle.photon.proofs.Filled.{filled_none, filled_more, filled_all, map_count
 use Rattle.photon.specs.Squares.{square_length}
 use Rattle.photon.proofs.cell.mix_columns.Goals as goal
 
-pub mix-column-requires : goal.mix-column-requires
-mix-column-requires c =
+pub mix_column-requires : goal.mix_column-requires
+mix_column-requires c =
     subst (λ (X : Square). Nibbles (get_or X c.loop-j.j [])) (sym c.transpose-columns.ensures) (cells_transposed c.args.x c.requires c.loop-j.j)
 
 pub loop-j-init : goal.loop-j-init
 loop-j-init c = filled_none (λ j. by_ms 8 (get_or c.transpose-columns.result j [])) [] 8 _ refl
 
 pub loop-j-preserved : goal.loop-j-preserved
-loop-j-preserved c = filled_more (λ j. by_ms 8 (get_or c.transpose-columns.result j [])) [] 8 c.loop-j.mixed c.loop-j.j _ (omega arith) c.mix-column.ensures c.loop-j.invariant
+loop-j-preserved c = filled_more (λ j. by_ms 8 (get_or c.transpose-columns.result j [])) [] 8 c.loop-j.mixed c.loop-j.j _ (omega arith) c.mix_column.ensures c.loop-j.invariant
 
 transposed_length : (X : Square) → length (transposed X) ≡ 8
 unfolding transposed

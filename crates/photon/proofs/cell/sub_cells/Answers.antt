@@ -9,7 +9,7 @@ pub loop-i-init : goal.loop-i-init
 loop-i-init c = filled_none (λ i. map (λ j. get_or s_box (cell c.args.x i j) 0) (range_with_len 0 8)) [] 8 _ refl
 
 pub loop-i-preserved : goal.loop-i-preserved
-loop-i-preserved c = filled_more (λ i. map (λ j. get_or s_box (cell c.args.x i j) 0) (range_with_len 0 8)) [] 8 c.loop-i.out c.loop-i.i _ (omega arith) c.sub-row.ensures c.loop-i.invariant
+loop-i-preserved c = filled_more (λ i. map (λ j. get_or s_box (cell c.args.x i j) 0) (range_with_len 0 8)) [] 8 c.loop-i.out c.loop-i.i _ (omega arith) c.sub_row.ensures c.loop-i.invariant
 
 pub returns : goal.returns
 unfolding square sub_cells

@@ -2,8 +2,8 @@ use Rattle.std.proofs.Common.{rules}
 use Rattle.photon.proofs.TableBits.{halves_below, halves_fit, index_is}
 use Rattle.photon.proofs.table.index.Goals as goal
 
-pub overflow-cast-result : goal.overflow-cast-result
-overflow-cast-result c = search (rules, halves_fit)
+pub overflow_cast-result : goal.overflow_cast-result
+overflow_cast-result c = search (rules, halves_fit)
 
 pub returns : goal.returns
 returns c =

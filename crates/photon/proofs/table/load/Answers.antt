@@ -12,7 +12,7 @@ loop-j-preserved c =
     let w : List ℕ = c.loop-j.columns in
     let i : ℕ = c.loop-j.j in (
       simp length-set c.loop-j.invariant.0,
-      subst (λ v. (k : ℕ) → k < i + 1 → get_or (set w i v) k 0 ≡ f k) (sym c.load-column.ensures)
+      subst (λ v. (k : ℕ) → k < i + 1 → get_or (set w i v) k 0 ≡ f k) (sym c.load_column.ensures)
           (fill_by_more f w i 0 (omega arith) c.loop-j.invariant.1),
     )
 

@@ -8,8 +8,8 @@ use Rattle.photon.specs.Bounds.{byte_of}
 use Rattle.photon.proofs.TableBits.{byte_is, raised_fit}
 use Rattle.photon.proofs.table.store.Goals as goal
 
-pub overflow-cast-state : goal.overflow-cast-state
-overflow-cast-state c = search (rules, raised_fit)
+pub overflow_cast-state : goal.overflow_cast-state
+overflow_cast-state c = search (rules, raised_fit)
 
 pub loop-k-preserved : goal.loop-k-preserved
 loop-k-preserved c =

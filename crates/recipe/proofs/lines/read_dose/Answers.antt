@@ -7,5 +7,5 @@ use Rattle.recipe.proofs.lines.read_dose.Goals as goal
 pub returns : goal.returns
 returns c =
     let after = c.args.after.now in
-    c.kept.ensures ∙ in_front 5 (dose (get_or after 0 0) c.from-le-bytes-grams.result) after _ (omega (arith, ltb-false)) (take_rest after 5)
-    ∙ ap (λ g. whole 5 (dose (get_or after 0 0) g) after) c.from-le-bytes-grams.ensures
+    c.kept.ensures ∙ in_front 5 (dose (get_or after 0 0) c.from_le_bytes-grams.result) after _ (omega (arith, ltb-false)) (take_rest after 5)
+    ∙ ap (λ g. whole 5 (dose (get_or after 0 0) g) after) c.from_le_bytes-grams.ensures

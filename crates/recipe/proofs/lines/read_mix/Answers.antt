@@ -7,5 +7,5 @@ use Rattle.recipe.proofs.lines.read_mix.Goals as goal
 pub returns : goal.returns
 returns c =
     let after = c.args.after.now in
-    c.kept.ensures ∙ in_front 2 (mix c.from-le-bytes-seconds.result) after _ (omega (arith, ltb-false)) (take_rest after 2)
-    ∙ ap (λ s. whole 2 (mix s) after) c.from-le-bytes-seconds.ensures
+    c.kept.ensures ∙ in_front 2 (mix c.from_le_bytes-seconds.result) after _ (omega (arith, ltb-false)) (take_rest after 2)
+    ∙ ap (λ s. whole 2 (mix s) after) c.from_le_bytes-seconds.ensures

@@ -23,6 +23,6 @@ returns-in-Empty c =
 
 pub returns-in-Remark : goal.returns-in-Remark
 returns-in-Remark c =
-    let v : c.write-remark.result ≡ writing (says c.args.line) c.args.out.now = search rules in
-    let a : c.write-remark.new.out ≡ written (says c.args.line) c.args.out.now = search rules in
+    let v : c.write_remark.result ≡ writing (says c.args.line) c.args.out.now = search rules in
+    let a : c.write_remark.new.out ≡ written (says c.args.line) c.args.out.now = search rules in
     record { value = v; after = a; back = written_back (says c.args.line) c.args.out.now _ _ v a }

@@ -4,5 +4,5 @@ use Rattle.std.proofs.lemmas.Bool.{leb-true, leb-false}
 use Rattle.recipe.specs.Lines.{within}
 use Rattle.recipe.proofs.text.is_plain.Goals as goal
 
-pub returns-in-default : goal.returns-in-default
-returns-in-default c = ap (within 49 57) (sym (get_or_past c.args.text.now 0 0 (omega (arith, leb-true, leb-false))))
+pub returns-in_default : goal.returns-in_default
+returns-in_default c = ap (within 49 57) (sym (get_or_past c.args.text.now 0 0 (omega (arith, leb-true, leb-false))))

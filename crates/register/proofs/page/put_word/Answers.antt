@@ -5,4 +5,4 @@ use Rattle.register.proofs.page.put_word.Goals as goal
 
 pub returns : goal.returns
 returns c =
-    put_at c.args.out.now c.copy-from-slice.new.self (word c.args.n) c.args.place 2 (c.copy-from-slice.ensures.after ∙ c.to-le-bytes-bytes.ensures)
+    put_at c.args.out.now c.copy_from_slice.new.self (word c.args.n) c.args.place 2 (c.copy_from_slice.ensures.after ∙ c.to_le_bytes-bytes.ensures)

@@ -7,6 +7,6 @@ returns c =
     let tb = c.args.self.now.table in
     let long : length tb ≡ 64 = search rules in
     record {
-      spans = pairs_inserted tb c.args.i c.args.self.now.count c.args.span c.rotate-right.new.self c.requires.0 (omega arith) c.rotate-right.ensures.after;
+      spans = pairs_inserted tb c.args.i c.args.self.now.count c.args.span c.rotate_right.new.self c.requires.0 (omega arith) c.rotate_right.ensures.after;
       count = refl;
     }

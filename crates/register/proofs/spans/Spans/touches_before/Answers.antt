@@ -11,5 +11,5 @@ returns-then-i-gt0 c =
     let n = c.args.n in
     let long : length s.table ≡ 64 = search rules in
     let at = pairs_at s.table s.count (omega arith) (i - 1) (omega arith) in
-    c.ends-before.ensures ∙ ap (λ p. eqb (p.0 + p.1) n) (sym at) ∙
+    c.ends_before.ensures ∙ ap (λ p. eqb (p.0 + p.1) n) (sym at) ∙
     ap (λ b. b && eqb ((get_or (listed s) (i - 1) (0, 0)).0 + (get_or (listed s) (i - 1) (0, 0)).1) n) (sym (lt-ltb 0 i c.if-i-gt0.true))
