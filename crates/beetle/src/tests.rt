@@ -76,7 +76,7 @@ fn opens_by_its_tag<R: Rate>(rt: &impl Abort, ad: &[u8], text: &[u8; 9]) -> Resu
         assert!(rt;
             open::<R, BenchEngine>(&BenchEngine, KEY, NONCE, ad, &sealed, &mut out).is_err()
         );
-        assert!(rt; &out[0..9] == b"\0\0\0\0\0\0\0\0\0");
+        assert!(rt; &out[0..9] == b"\0\0\0\0\0\0\0\0\0".as_slice());
         sealed[i] ^= 1;
     }
     Ok(())

@@ -1,5 +1,5 @@
-//! Sealing, opening and hashing over the table engine, for C and Rust to link: each answers 0 where it is granted, else
-//! the refusal's number.
+//! Sealing, opening and hashing over the table engine: each answers 0 where it is granted, else the refusal's number.
+//! `exports_c` hands these calls to C.
 #![tactic(auto)]
 
 ghost use Rattle.std.specs.Prelude.{◌≡◌};
@@ -22,23 +22,20 @@ fn code_of(answer: Result<(), Refusal>) -> u8
     }
 }
 
-#[unsafe(no_mangle)]
-pub extern "C" fn lochgrater_permute(state: &mut [u8; 32])
+pub fn lochgrater_permute(state: &mut [u8; 32])
     ensures { state.new ≡ photon256 state.old }
 {
     TableEngine.permute(state);
 }
 
-#[unsafe(no_mangle)]
-pub extern "C" fn lochgrater_hash(text: &[u8], out: &mut [u8]) -> u8
+pub fn lochgrater_hash(text: &[u8], out: &mut [u8]) -> u8
     ensures answer { result ≡ code (hash_outcome photon256 text.now out.old).answer }
     ensures buffer { out.new ≡ (hash_outcome photon256 text.now out.old).buffer }
 {
     code_of(beetle::hash(&TableEngine, text, out))
 }
 
-#[unsafe(no_mangle)]
-pub extern "C" fn lochgrater_seal_128(
+pub fn lochgrater_seal_128(
     key: &[u8; 16],
     nonce: &[u8; 16],
     ad: &[u8],
@@ -51,8 +48,7 @@ pub extern "C" fn lochgrater_seal_128(
     code_of(beetle::seal::<Rate128, TableEngine>(&TableEngine, key, nonce, ad, text, out))
 }
 
-#[unsafe(no_mangle)]
-pub extern "C" fn lochgrater_seal_32(
+pub fn lochgrater_seal_32(
     key: &[u8; 16],
     nonce: &[u8; 16],
     ad: &[u8],
@@ -65,8 +61,7 @@ pub extern "C" fn lochgrater_seal_32(
     code_of(beetle::seal::<Rate32, TableEngine>(&TableEngine, key, nonce, ad, text, out))
 }
 
-#[unsafe(no_mangle)]
-pub extern "C" fn lochgrater_open_128(
+pub fn lochgrater_open_128(
     key: &[u8; 16],
     nonce: &[u8; 16],
     ad: &[u8],
@@ -79,8 +74,7 @@ pub extern "C" fn lochgrater_open_128(
     code_of(beetle::open::<Rate128, TableEngine>(&TableEngine, key, nonce, ad, text, out))
 }
 
-#[unsafe(no_mangle)]
-pub extern "C" fn lochgrater_open_32(
+pub fn lochgrater_open_32(
     key: &[u8; 16],
     nonce: &[u8; 16],
     ad: &[u8],

@@ -11,6 +11,7 @@ mod speed;
 
 use std::env;
 use std::fmt::Display;
+use std::process::ExitCode;
 
 const VERSION: &str = "lochgrater 0.1.0";
 
@@ -37,10 +38,6 @@ enum Status {
     Done,
     Failed,
 }
-
-/// Ends the process with status 1.
-#[derive(Drop, Debug)]
-struct Failed;
 
 fn usage(rt: &HostRuntime) -> anyhow::Result<Status> {
     eprintln!(rt; "{HELP}")?;
@@ -80,17 +77,18 @@ fn words(rt: &HostRuntime) -> anyhow::Result<Vec<String>> {
     Ok(env::args(rt)?.skip(1).collect(rt.alloc())?)
 }
 
-fn main(rt: HostRuntime) -> Result<(), Failed> {
+/// Ends with status 1 where a command failed.
+fn main(rt: HostRuntime) -> ExitCode {
     let ended = match words(&rt) {
         Ok(all) => run(&rt, all.as_slice()),
         Err(e) => Err(e),
     };
     match ended {
-        Ok(Status::Done) => Ok(()),
-        Ok(Status::Failed) => Err(Failed),
+        Ok(Status::Done) => ExitCode::SUCCESS,
+        Ok(Status::Failed) => ExitCode::FAILURE,
         Err(e) => {
             let _ = eprintln!(rt; "lochgrater: {e}");
-            Err(Failed)
+            ExitCode::FAILURE
         }
     }
 }

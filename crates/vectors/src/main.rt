@@ -22,7 +22,7 @@ fn run_file(rt: &HostRuntime, kind: &str, name: &str) -> anyhow::Result<bool> {
         "hash" => hashes::run(rt, name, vectors.as_slice()),
         "seal128" => sealings::run::<Rate128>(rt, name, vectors.as_slice()),
         "seal32" => sealings::run::<Rate32>(rt, name, vectors.as_slice()),
-        _ => Err(HELP.into()),
+        _ => Err(anyhow!("{HELP}")),
     }
 }
 
@@ -33,7 +33,7 @@ fn run(rt: &HostRuntime) -> anyhow::Result<()> {
     let mut words = env::args(rt)?.skip(1);
     while let Some(kind) = words.next() {
         let Some(name) = words.next() else {
-            return Err(HELP.into());
+            return Err(anyhow!("{HELP}"));
         };
         if !run_file(rt, kind.as_str(), name.as_str())? {
             all_agree = false;
