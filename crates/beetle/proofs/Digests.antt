@@ -1,9 +1,9 @@
 -- A digest has 32 bytes. Assumes nothing.
-use Rattle.std.proofs.Common.{◌≡◌, ℕ, ◌<◌, ◌≤◌, cond, ltb, List, [], ◌∷◌, ◌++◌, length, take, drop, replicate, ◌∙◌, arith, length-append, length-take-le}
+use Rattle.std.proofs.Common.{◌≡◌, ℕ, ◌<◌, cond, ltb, List, ◌++◌, length, take, drop, replicate, ◌∙◌, arith, length-append, length-take-le}
 use lib.ListN.{length-replicate}
 use Rattle.std.proofs.lemmas.Bool.{leb-true, leb-false, cond_both}
 use Rattle.photon.specs.Bytes.{Bytes}
-use Rattle.beetle.specs.Blocks.{padded, added, ending, absorbed}
+use Rattle.beetle.specs.Blocks.{padded, ending}
 use Rattle.beetle.specs.Hashing.{squeezed, taken, digest}
 use Rattle.beetle.specs.Laws.{Stays, Small, DigestBytes}
 use Rattle.beetle.proofs.Xors.{length_padded}

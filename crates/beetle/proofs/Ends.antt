@@ -1,11 +1,11 @@
 -- The outcome of a call, case by case. Assumes nothing.
-use Rattle.std.proofs.Common.{◌≡◌, ℕ, ◌+◌, ◌-◌, ◌<◌, ◌≤◌, Bool, true, false, cond, ◌||◌, ◌⊎◌, List, [], ◌∷◌, ◌++◌, length, take, drop, replicate, Some, None, Ok, Err, Option, sym, refl, ap, ◌∙◌, ⊎_elim, append_assoc, append-nil, arith, length-append, length-drop, drop-drop, take_at, drop_at}
+use Rattle.std.proofs.Common.{◌≡◌, ℕ, ◌+◌, ◌-◌, ◌<◌, ◌≤◌, true, false, ◌||◌, ◌⊎◌, List, [], ◌++◌, length, take, drop, replicate, Some, None, Ok, Err, Option, sym, ap, ◌∙◌, ⊎_elim, append_assoc, append-nil, arith, length-append, length-drop, drop-drop, take_at, drop_at}
 use borrow.Rule.Slice.PartMut.{put_mid}
 use Rattle.std.specs.Str.{bytes_eq}
 use Rattle.std.proofs.lemmas.List.{drop_all}
 use Rattle.std.proofs.lemmas.Bool.{lt-ltb, le-ltb, cond-true, cond-false, or_left, or_right, or_from}
-use Rattle.refusal.specs.declared.Refusal.TheVariants.{TextTooLong, OutputTooShort, TagDiffers}
-use Rattle.beetle.specs.Outcomes.{Outcome, outcome, is_too_long}
+use Rattle.refusal.specs.declared.Refusal.TheVariants.{TextTooLong, OutputTooShort}
+use Rattle.beetle.specs.Outcomes.{outcome, is_too_long}
 use Rattle.beetle.specs.Sealing.{sealed, seal_outcome}
 use Rattle.beetle.specs.Opening.{message_length, ciphertext, tag_in, opening, tag_of, opened, handed_out, open_outcome}
 

@@ -1,15 +1,15 @@
 -- Bytes stay bytes. Assumes nothing.
-use Rattle.std.proofs.Common.{◌≡◌, ℕ, zero, suc, ◌+◌, ◌-◌, ◌*◌, ◌/◌, ◌%◌, ◌<◌, ◌≤◌, cond, ◌≢◌, List, [], ◌∷◌, ◌++◌, length, get_or, take, drop, set, replicate, sym, refl, ap, ◌∙◌, subst, ⊎_elim, arith, length-append, length-drop, length-set, length-take-le, get_or-drop, get_or-set_other, get_or-set_same}
-use lib.Bits.{bit_xor, xor_lt}
+use Rattle.std.proofs.Common.{ℕ, zero, suc, ◌+◌, ◌-◌, ◌*◌, ◌/◌, ◌<◌, ◌≤◌, List, [], ◌∷◌, ◌++◌, length, get_or, take, drop, set, replicate, sym, refl, ◌∙◌, subst, ⊎_elim, arith, length-append, length-drop, length-set, get_or-drop}
+use lib.Bits.{xor_lt}
 use Rattle.std.proofs.lemmas.List.{get_or_past}
-use Rattle.std.proofs.lemmas.Bool.{cases_lt, cases_eq, cond_both}
+use Rattle.std.proofs.lemmas.Bool.{cases_lt, cond_both}
 use Rattle.photon.specs.Bytes.{Bytes}
-use Rattle.beetle.specs.Blocks.{xored, padded, blocks, added, ending, absorbed, absorbed_blocks}
+use Rattle.beetle.specs.Blocks.{xored, padded, added, ending, absorbed}
 use Rattle.beetle.specs.Mode.{rotated, shuffled, masked, c0, c1, begun, ended, empty}
 use Rattle.beetle.specs.Laws.{Small, Stays}
-use Rattle.beetle.proofs.Xors.{length_xored, padded_short, padded_full, length_padded}
+use Rattle.beetle.proofs.Xors.{length_xored}
 use Rattle.beetle.proofs.Cuts.{absorbed_none, absorbed_more, ending_below}
-use Rattle.beetle.proofs.Shuffles.{turned, length_rotated, get_or_rotated}
+use Rattle.beetle.proofs.Shuffles.{length_rotated, get_or_rotated}
 
 pub small_nil : Small []
 small_nil i = omega arith

@@ -1,6 +1,5 @@
 -- Opening undoes sealing and sealing undoes opening. Assumes nothing.
-use Rattle.std.proofs.Common.{◌≡◌, ℕ, zero, suc, ◌+◌, ◌-◌, ◌/◌, ◌%◌, ◌<◌, ◌≤◌, Bool, true, false, cond, eqb, List, [], ◌∷◌, ◌++◌, length, take, drop, Some, None, Option, sym, refl, ap, ◌∙◌, subst, ⊎_elim, append-nil, arith, length-append, length-drop, take-append-drop, length-take, length-take-le, take_all, take_at, drop_at}
-use lib.Bits.{bit_xor}
+use Rattle.std.proofs.Common.{◌≡◌, ℕ, zero, suc, ◌+◌, ◌/◌, ◌%◌, ◌≤◌, cond, eqb, List, [], ◌∷◌, ◌++◌, length, take, drop, Some, sym, refl, ap, ◌∙◌, subst, ⊎_elim, append-nil, arith, length-append, length-drop, take-append-drop, length-take, length-take-le, take_all, take_at, drop_at}
 use Rattle.std.specs.Str.{bytes_eq}
 use Rattle.std.proofs.lemmas.Slice.Eq.{bytes_eq-Decides}
 use Rattle.std.proofs.lemmas.List.{nil_from_length, drop_all}
@@ -9,7 +8,7 @@ use Rattle.photon.specs.Bytes.{Bytes}
 use Rattle.beetle.specs.Blocks.{xored, padded, blocks, added, ending, absorbed}
 use Rattle.beetle.specs.Mode.{Passed, shuffled, masked, rho, rho_back, passed, c0, c1, begun, ended, empty, tag}
 use Rattle.beetle.specs.Sealing.{sealing, sealed}
-use Rattle.beetle.specs.Opening.{message_length, ciphertext, tag_in, opening, tag_of, opened}
+use Rattle.beetle.specs.Opening.{message_length, ciphertext, tag_in, opening, tag_of}
 use Rattle.beetle.specs.Laws.{Stays, Lawful, Small, SealedOpens, OpenedWasSealed, OpensByItsTag, SealedLength, OpenedLength, Laws}
 use Rattle.beetle.proofs.Xors.{length_xored}
 use Rattle.beetle.proofs.Differing.{xor_back}

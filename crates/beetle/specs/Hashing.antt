@@ -1,6 +1,6 @@
 -- PHOTON-Beetle's hash, for a map P on states.
 -- Assumes nothing.
-use Rattle.std.specs.Prelude.{ℕ, cond, List, [], ◌∷◌, ◌++◌, length, take, drop, replicate, Ok, Err, ◌==◌, nat_le, nat_lt}
+use Rattle.std.specs.Prelude.{ℕ, cond, List, ◌++◌, length, take, drop, replicate, Ok, Err, ◌==◌, nat_le, nat_lt}
 use Rattle.refusal.specs.declared.Refusal.TheVariants.{TextTooLong, OutputTooShort}
 use Rattle.beetle.specs.Outcomes.{Outcome, outcome, is_too_long}
 use Rattle.beetle.specs.Blocks.{padded, added, ending, absorbed}

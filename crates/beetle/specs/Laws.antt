@@ -1,6 +1,6 @@
 -- How sealing and opening belong together, for every map P that sends 32 bytes to 32 bytes and every lawful rate r; what a digest is.
 -- Assumes nothing.
-use Rattle.std.specs.Prelude.{◌≡◌, ℕ, ◌+◌, ◌%◌, ◌<◌, ◌≤◌, List, length, Some, None, Option, slice_index}
+use Rattle.std.specs.Prelude.{◌≡◌, ℕ, ◌+◌, ◌%◌, ◌<◌, ◌≤◌, List, length, Some, slice_index}
 use Rattle.photon.specs.Bytes.{Bytes}
 use Rattle.beetle.specs.Hashing.{digest}
 use Rattle.beetle.specs.Sealing.{sealed}

@@ -1,6 +1,6 @@
 -- Opening a sealed text C, which is a ciphertext and then a tag of 16 bytes, with key K, nonce N and associated data A.
 -- Assumes nothing.
-use Rattle.std.specs.Prelude.{ℕ, ◌-◌, Bool, cond, ◌||◌, List, ◌++◌, length, take, drop, replicate, Some, None, Ok, Err, Option, nat_lt}
+use Rattle.std.specs.Prelude.{ℕ, ◌-◌, cond, ◌||◌, List, ◌++◌, length, take, drop, replicate, Some, None, Ok, Err, Option, nat_lt}
 use Rattle.std.specs.Str.{bytes_eq}
 use Rattle.refusal.specs.declared.Refusal.TheVariants.{TextTooLong, OutputTooShort, TagDiffers}
 use Rattle.beetle.specs.Outcomes.{Outcome, outcome, is_too_long}

@@ -1,5 +1,5 @@
 -- What a call answers, and what its output buffer holds afterwards. Assumes nothing.
-use Rattle.std.specs.Prelude.{ℕ, Bool, List, length, Result, nat_lt}
+use Rattle.std.specs.Prelude.{ℕ, Bool, List, Result, nat_lt}
 use Rattle.refusal.specs.declared.Refusal.{Refusal}
 
 pub record Outcome : Type 0 where

@@ -1,5 +1,5 @@
 -- What has been read of a hexadecimal text, and what is left. Assumes nothing.
-use Rattle.std.proofs.Common.{◌≡◌, ℕ, ◌+◌, ◌*◌, List, [], ◌∷◌, ◌++◌, Some, None, Option, sym, refl, ap, ◌∙◌, append_assoc, append-nil}
+use Rattle.std.proofs.Common.{◌≡◌, ℕ, ◌+◌, ◌*◌, List, [], ◌∷◌, ◌++◌, Some, None, Option, sym, refl, ap, ◌∙◌, append_assoc}
 use Rattle.hexadecimal.specs.Hex.{digit_value, paired, bytes_of}
 
 abbrev pub after : List ℕ → Option (List ℕ) → Option (List ℕ)

@@ -1,6 +1,6 @@
 -- The rule of a list, tested once over the whole list and carried to each entry; and the rule of the table in a form that
 -- is quick to compute. Assumes nothing.
-use Rattle.std.proofs.Common.{◌≡◌, ℕ, zero, suc, ◌/◌, ◌%◌, T, eqb, List, [], ◌∷◌, ◌++◌, map, length, get_or, sym, refl, ap, ◌∙◌, arith, eqb→eq, length-append, length-drop}
+use Rattle.std.proofs.Common.{◌≡◌, ℕ, zero, suc, ◌/◌, ◌%◌, T, eqb, List, map, length, get_or, sym, refl, ap, ◌∙◌, arith, eqb→eq, length-append, length-drop}
 use Rattle.std.specs.List.{range_with_len}
 use Rattle.std.proofs.lemmas.List.FromFn.{fill_by_all}
 use Rattle.photon.specs.Photon.{by_m, by_ms}

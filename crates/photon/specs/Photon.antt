@@ -16,12 +16,15 @@ cell X i j = slice_index (slice_index_or X i []) j
 unfoldable pub square : (ℕ → ℕ → ℕ) → Square
 square f = map (λ i. map (f i) (range_with_len 0 8)) (range_with_len 0 8)
 
+-- RC: one number for each round
 abbrev pub round_constants : List ℕ
 round_constants = 1 ∷ 3 ∷ 7 ∷ 14 ∷ 13 ∷ 11 ∷ 6 ∷ 12 ∷ 9 ∷ 2 ∷ 5 ∷ 10 ∷ []
 
+-- IC: one number for each row
 abbrev pub row_constants : List ℕ
 row_constants = 0 ∷ 1 ∷ 3 ∷ 7 ∷ 15 ∷ 14 ∷ 12 ∷ 8 ∷ []
 
+-- S
 abbrev pub s_box : List ℕ
 s_box = 12 ∷ 5 ∷ 6 ∷ 11 ∷ 9 ∷ 0 ∷ 10 ∷ 13 ∷ 3 ∷ 14 ∷ 15 ∷ 8 ∷ 4 ∷ 7 ∷ 1 ∷ 2 ∷ []
 

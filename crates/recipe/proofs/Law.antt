@@ -1,7 +1,7 @@
 -- The verdict by lists of lines. Assumes nothing.
 use Rattle.std.proofs.Common.{◌≡◌, ℕ, zero, suc, ◌+◌, ◌<◌, ◌≤◌, true, leb, List, [], ◌∷◌, ◌++◌, length, get_or, Some, None, Ok, Err, Option, Result, sym, refl, ap, ◌∙◌, subst, subst₂, append_assoc, append-nil, zero-add, arith, MatchResult}
-use Rattle.std.specs.List.{flat_map, AllByRecursion as All}
-use Rattle.std.proofs.ByRecursion.{All-push}
+use Rattle.std.specs.List.{flat_map, AllByRecursion}
+use Rattle.std.proofs.ByRecursion.{AllByRecursion-push}
 use Rattle.std.proofs.lemmas.List.{get_or-append-add, flat_map_more, length-append}
 use Rattle.std.proofs.lemmas.Bool.{le-leb, lt-leb, leb-true, leb-false, cond-true, cond-false, cond_both}
 use Rattle.refusal.specs.declared.Refusal.{Refusal}
@@ -20,7 +20,7 @@ some_same : {X : Type 0} (x y : X) → Some x ≡ Some y → x ≡ y
 some_same x y p = cc
 
 -- the bytes of lines can be read in one way only
-one_way : (es fs : List Entry) → All (λ e. in_range e ≡ true) es → All (λ e. in_range e ≡ true) fs → flat_map bytes_of es ≡ flat_map bytes_of fs → es ≡ fs
+one_way : (es fs : List Entry) → AllByRecursion (λ e. in_range e ≡ true) es → AllByRecursion (λ e. in_range e ≡ true) fs → flat_map bytes_of es ≡ flat_map bytes_of fs → es ≡ fs
 one_way [] [] h k p = refl
 one_way [] (f ∷ fs) h k p = absurd (none_some (f, flat_map bytes_of fs) (ap read_line p ∙ read_back f (flat_map bytes_of fs) k.0))
 one_way (e ∷ es) [] h k p = absurd (none_some (e, flat_map bytes_of es) (ap read_line (sym p) ∙ read_back e (flat_map bytes_of es) h.0))
@@ -51,7 +51,7 @@ along_one e es from to place rest h ih (Some after) q p =
       ap entries first ∙ ap (λ l. e ∷ l) more.1,
     )
 
-along : (es : List Entry) (from to : Phase) (place : ℕ) (rest : List ℕ) → All (λ e. in_range e ≡ true) es → followed from es ≡ Some to → Along es from to place rest
+along : (es : List Entry) (from to : Phase) (place : ℕ) (rest : List ℕ) → AllByRecursion (λ e. in_range e ≡ true) es → followed from es ≡ Some to → Along es from to place rest
 along [] from to place rest h p =
     let same = some_same from to p in
     let on : place ≡ place + 0 = omega arith in
@@ -106,7 +106,7 @@ refused bs k f (too_much es b p h) = weighed_whole bs es b p ∙ cond-false _ _ 
 -- one more line
 begins_more : (bs : List ℕ) (es : List Entry) (e : Entry) (after rest : List ℕ) → Begins bs es rest → Stands e after rest → Begins bs (es ++ e ∷ []) after
 begins_more bs es e after rest b h = record {
-  ranges = All-push (λ x. in_range x ≡ true) es e b.ranges h.0;
+  ranges = AllByRecursion-push (λ x. in_range x ≡ true) es e b.ranges h.0;
   bytes = b.bytes ∙ ap (λ l. flat_map bytes_of es ++ l) h.1 ∙ sym (append_assoc (flat_map bytes_of es) (bytes_of e) after) ∙ ap (λ l. l ++ after) (flat_map_more bytes_of [] es e);
 }
 

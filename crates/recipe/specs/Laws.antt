@@ -1,7 +1,7 @@
 -- What the verdict means, by lists of lines and not by the judge's steps.
 -- Assumes nothing.
 use Rattle.std.specs.Prelude.{◌≡◌, ℕ, ◌<◌, ◌≤◌, true, List, [], ◌∷◌, ◌++◌, length, Some, None, Ok, Err, Option, Result, MatchResult, ◌≢◌}
-use Rattle.std.specs.List.{flat_map, AllByRecursion as All}
+use Rattle.std.specs.List.{flat_map, AllByRecursion}
 use Rattle.refusal.specs.declared.Refusal.{Refusal}
 use Rattle.refusal.specs.declared.Refusal.TheVariants.{BadLine, WrongPhase, OverTotal}
 use Rattle.recipe.specs.declared.trough.Phase.{Phase}
@@ -18,7 +18,7 @@ followed phase (e ∷ es) = elim (step_of phase e) [ None ↦ None | Some after 
 
 -- the bytes bs are the lines es, their fields in range, and then rest
 pub record Begins (bs : List ℕ) (es : List Entry) (rest : List ℕ) : Type 0 where
-  pub ranges : All (λ e. in_range e ≡ true) es
+  pub ranges : AllByRecursion (λ e. in_range e ≡ true) es
   pub bytes : bs ≡ flat_map bytes_of es ++ rest
 
 -- the trough can follow es from empty to this phase

@@ -1,14 +1,14 @@
 -- Bits of the chart's words: one that is set, and those of a blank chart.
 -- Assumes nothing.
-use Rattle.std.proofs.Common.{◌≡◌, ℕ, zero, suc, ◌+◌, ◌-◌, ◌*◌, ◌/◌, ◌%◌, ◌^◌, ◌<◌, ◌≤◌, Bool, true, false, ◌&&◌, ◌||◌, eqb, ltb, ◌⊎◌, List, length, get_or, set, replicate, sym, refl, ap, ◌∙◌, subst, inl, inr, ⊎_elim, arith}
+use Rattle.std.proofs.Common.{◌≡◌, ℕ, zero, suc, ◌+◌, ◌-◌, ◌*◌, ◌/◌, ◌%◌, ◌^◌, ◌<◌, Bool, true, false, ◌&&◌, ◌||◌, eqb, ltb, List, length, get_or, set, replicate, sym, refl, ap, ◌∙◌, ⊎_elim, arith}
 use mathlib.Core.Path.{fun_ext}
 use native.Mathlib.Nat.{zero-div, div-eq_of_lt, div_self}
 use lib.Bits.{bit_and, bit_or, or_shr, or_mod, or_zero_r, and_mask}
 use Rattle.std.proofs.lemmas.Nat.{pow-add, pow_pos, pow_below, shl-shr, one_shl, mod_below}
-use Rattle.std.proofs.lemmas.List.{get_or-set_same, get_or-set_other, get_or-replicate, get_or_past, length-replicate}
-use Rattle.std.proofs.lemmas.Bool.{cases_Bool, cases_lt, cases_eq, and_left, and_right, le-ltb, lt-ltb, eq-eqb, ne_eqb}
+use Rattle.std.proofs.lemmas.List.{get_or-set_same, get_or-set_other, get_or-replicate, get_or_past}
+use Rattle.std.proofs.lemmas.Bool.{cases_lt, cases_eq, and_left, and_right, le-ltb, lt-ltb, eq-eqb, ne_eqb}
 use Rattle.register.specs.Chart.{bit, charted}
-use Rattle.register.specs.Runs.{Numbers, Small, with_number}
+use Rattle.register.specs.Runs.{Small, with_number}
 
 bit_and_one : (w k : ℕ) → eqb (bit_and (w / 2 ^ k) 1) 1 ≡ bit w k
 bit_and_one w k = ap (λ x. eqb x 1) (and_mask (w / 2 ^ k) 1)

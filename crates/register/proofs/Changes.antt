@@ -1,13 +1,12 @@
 -- One number more, in pairs that are apart.
 -- Assumes nothing.
-use Rattle.std.proofs.Common.{◌≡◌, ℕ, zero, suc, ◌+◌, ◌-◌, ◌<◌, ◌≤◌, Bool, true, false, ◌&&◌, ◌||◌, eqb, ltb, leb, ◌⊎◌, List, [], ◌∷◌, ◌++◌, length, get_or, take, drop, set, sym, refl, ap, ◌∙◌, subst, inl, inr, ⊎_elim, add-zero, add-one, arith, take-append-drop}
-use mathlib.Core.Path.{fun_ext}
+use Rattle.std.proofs.Common.{◌≡◌, ℕ, zero, suc, ◌+◌, ◌-◌, ◌<◌, ◌≤◌, Bool, true, false, ◌&&◌, ◌||◌, eqb, List, [], ◌∷◌, ◌++◌, length, get_or, take, drop, set, sym, refl, ap, ◌∙◌, subst, ⊎_elim, add-zero, add-one, arith, take-append-drop}
 use Rattle.std.proofs.lemmas.List.{drop_more, set_split, get_or-drop, length-drop, length-take-le, drop_at, append_assoc, drop-drop, take_at, take-append-le, drop-append-le}
-use Rattle.std.proofs.lemmas.Bool.{and_parts, and_from, or_parts, cases_eq, cases_lt, eqb-true, eqb-false}
+use Rattle.std.proofs.lemmas.Bool.{and_parts, and_from, or_parts, cases_eq, cases_lt}
 use Rattle.std.proofs.lemmas.Bool.Decides.{nat_tests}
 use Rattle.std.specs.List.{insert, remove}
-use Rattle.register.specs.Runs.{Numbers, Pair, with_number, within, covered, fits, apart}
-use Rattle.register.specs.Cover.{Apart, apart_parts, apart_from, apart_lower, within_yes}
+use Rattle.register.specs.Runs.{Pair, with_number, within, covered, fits, apart}
+use Rattle.register.specs.Cover.{apart_parts, apart_from, within_yes}
 
 -- where the next pair may begin, after the pairs
 abbrev pub past : ℕ → List Pair → ℕ

@@ -1,12 +1,12 @@
 -- The numbers of a faultless page, marked one by one: none is refused.
 -- Assumes nothing.
-use Rattle.std.proofs.Common.{◌≡◌, ℕ, zero, suc, ◌+◌, ◌-◌, ◌*◌, ◌<◌, ◌≤◌, Bool, true, false, cond, ◌&&◌, ◌||◌, eqb, List, [], ◌∷◌, ◌++◌, length, get_or, take, drop, Some, None, Ok, Option, sym, refl, ap, ◌∙◌, subst, add-zero, arith}
+use Rattle.std.proofs.Common.{◌≡◌, ℕ, ◌+◌, ◌-◌, ◌<◌, ◌≤◌, Bool, true, false, ◌||◌, eqb, List, [], ◌∷◌, ◌++◌, length, get_or, take, drop, Some, None, Ok, sym, refl, ap, ◌∙◌, subst, arith}
 use mathlib.Core.Path.{fun_ext}
 use Rattle.std.proofs.lemmas.List.{append-nil, take_more, drop_more, at_drop_more, at_drop_all, length-append, length-take-le, take-append-drop}
 use Rattle.std.proofs.lemmas.Bool.{or_from, cond-true, cond-false}
 use Rattle.register.specs.Page.{page_count, page_pairs, pair_fault, Faultless, with_pairs}
-use Rattle.register.specs.Runs.{Meaning, Numbers, Pair, run_count, with_number, within, covered, fits, apart}
-use Rattle.register.proofs.Changes.{past, apart_split, apart_join, covered_append, or_between, within_more}
+use Rattle.register.specs.Runs.{Meaning, Pair, run_count, with_number, within, covered, fits, apart}
+use Rattle.register.proofs.Changes.{past, apart_split, apart_join, covered_append, within_more}
 use Rattle.register.specs.Cover.{apart_parts, apart_from, within_above, runs_covered}
 use Rattle.register.proofs.Marking.{Marks, granted}
 

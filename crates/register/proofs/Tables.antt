@@ -1,11 +1,11 @@
 -- The pairs that a table lists, after a change of the table.
 -- Assumes nothing.
-use Rattle.std.proofs.Common.{◌≡◌, ℕ, zero, suc, ◌+◌, ◌-◌, ◌<◌, ◌≤◌, Bool, true, false, ◌||◌, List, [], ◌∷◌, ◌++◌, map, length, get_or, take, drop, set, sym, refl, ap, ◌∙◌, subst, add-one, arith}
+use Rattle.std.proofs.Common.{◌≡◌, ℕ, zero, suc, ◌+◌, ◌-◌, ◌<◌, ◌≤◌, false, ◌||◌, List, [], ◌∷◌, ◌++◌, map, length, get_or, take, drop, set, sym, refl, ap, ◌∙◌, add-one, arith}
 use borrow.Rule.Slice.PartMut.{mid_of, post_of, put_mid}
 use Rattle.std.proofs.lemmas.List.{append_assoc, map-append, length-map, length-append, length-take, length-take-le, length-drop, get_or-map, get_or-take, map-set, take_more, take_at, drop_at, set_at, take-take, take-map, drop-map, drop-take, drop-drop, at_drop_more, at_drop_all}
 use Rattle.std.specs.List.{insert, remove}
 use Rattle.register.specs.Runs.{Pair, covered, within}
-use Rattle.register.specs.Spans.{listed, pair_of}
+use Rattle.register.specs.Spans.{pair_of}
 use Rattle.register.specs.declared.spans.Span.{Span}
 
 abbrev nothing : Span

@@ -1,14 +1,13 @@
 -- What a mark does to a register of spans, by whether the number touches one.
 -- Assumes nothing.
-use Rattle.std.proofs.Common.{◌≡◌, ℕ, ◌+◌, ◌-◌, ◌<◌, ◌≤◌, Bool, true, false, ◌&&◌, eqb, ltb, List, length, get_or, set, Ok, Err, sym, refl, ap, ◌∙◌, subst, arith}
+use Rattle.std.proofs.Common.{◌≡◌, ℕ, ◌+◌, ◌-◌, ◌<◌, ◌≤◌, Bool, true, false, ◌&&◌, eqb, ltb, List, length, get_or, set, Ok, Err, sym, ap, ◌∙◌, subst, arith}
 use mathlib.Core.Path.{fun_ext}
 use Rattle.refusal.specs.declared.Refusal.TheVariants.{TooManyRuns}
 use Rattle.std.proofs.lemmas.List.Edits.{length-insert, length-remove}
 use Rattle.std.proofs.lemmas.List.{length-set}
 use Rattle.std.proofs.lemmas.Bool.{and_parts, and_from, ltb-true, lt-ltb, eqb-true, eq-eqb, false≢true}
 use Rattle.std.specs.List.{insert, remove}
-use Rattle.register.specs.Marked.{marked, mark_after}
-use Rattle.register.specs.Runs.{Numbers, Meaning, Pair, run_count, with_number, covered, apart}
+use Rattle.register.specs.Runs.{Meaning, Pair, run_count, with_number, covered, apart}
 use Rattle.register.specs.Spans.{listed, span_meaning}
 use Rattle.register.specs.declared.spans.Spans.{Spans}
 use Rattle.register.proofs.Changes.{Adds, Place, apart_at, adds_left, adds_right, adds_lone, adds_between}

@@ -1,9 +1,9 @@
 -- Pairs that are apart are the runs of the numbers that they cover, and the runs of a set cover the set.
 -- Assumes nothing.
-use Rattle.std.specs.Prelude.{◌≡◌, ℕ, zero, suc, ◌+◌, ◌-◌, ◌*◌, ◌<◌, ◌≤◌, Bool, true, false, not, ◌&&◌, ◌||◌, ◌⊎◌, List, [], ◌∷◌, length, nat_le, nat_lt, refl}
+use Rattle.std.specs.Prelude.{◌≡◌, ℕ, zero, suc, ◌+◌, ◌-◌, ◌*◌, ◌<◌, ◌≤◌, true, false, ◌||◌, ◌⊎◌, List, [], ◌∷◌, length, nat_le, nat_lt, refl}
 use Rattle.std.proofs.Common.{inl, inr, ⊎_elim, sym, ap, subst, ◌∙◌, arith}
 use Rattle.std.proofs.Math.Path.{fun_ext}
-use Rattle.std.proofs.lemmas.Bool.{cases_Bool, cases_lt, cases_eq, and_parts, and_from, and_left, and_right, or_from, or_left, or_right, or_cases, not_from_true, not_from_false, leb-true, ltb-true, le-leb, lt-leb, lt-ltb, le-ltb, eq-eqb, ne_eqb, both_ways}
+use Rattle.std.proofs.lemmas.Bool.{cases_Bool, cases_lt, and_parts, and_from, and_left, and_right, or_from, or_left, or_right, or_cases, not_from_true, not_from_false, leb-true, ltb-true, le-leb, lt-leb, lt-ltb, le-ltb, eq-eqb, ne_eqb, both_ways}
 use Rattle.register.specs.Runs.{Numbers, Pair, Small, begins, stretch, runs_from, runs, run_count, within, covered, fits, apart}
 use Rattle.register.specs.Steps.{from_end, from_yes, from_no, skip_to, stretch_is, stretch_le, stretch_all, stretch_stop, stretch_yes}
 

@@ -1,6 +1,6 @@
 -- What a table of spans lists.
 -- Assumes nothing.
-use Rattle.std.specs.Prelude.{ℕ, List, map, take}
+use Rattle.std.specs.Prelude.{List, map, take}
 use Rattle.register.specs.Runs.{Meaning, Pair, covered}
 use Rattle.register.specs.declared.spans.Span.{Span}
 use Rattle.register.specs.declared.spans.Spans.{Spans}

@@ -1,4 +1,4 @@
-use Rattle.std.proofs.Common.{◌≡◌, min, length, take, drop, sym, ap, ◌∙◌, arith}
+use Rattle.std.proofs.Common.{◌≡◌, min, length, take, drop, ap, ◌∙◌, arith}
 use Rattle.beetle.proofs.Cuts.{take_min, drop_min}
 use Rattle.beetle.proofs.blocks.first_block.Given as given
 use Rattle.beetle.proofs.blocks.first_block.Goals as goal

@@ -1,7 +1,7 @@
-use Rattle.std.proofs.Common.{◌≡◌, ℕ, ◌<◌, length, get_or, take, set, sym, refl, ap, ◌∙◌, arith, take_all}
+use Rattle.std.proofs.Common.{get_or, set, sym, ap, ◌∙◌, arith, take_all}
 use lib.Bits.{bit_xor}
 use Rattle.beetle.specs.Blocks.{xored}
-use Rattle.beetle.proofs.Xors.{xored_nil, xored_more, length_xored}
+use Rattle.beetle.proofs.Xors.{xored_nil, xored_more}
 use Rattle.beetle.proofs.blocks.xor_front.Goals as goal
 
 pub loop-i-init : goal.loop-i-init

@@ -1,6 +1,6 @@
-use Rattle.std.proofs.Common.{◌≡◌, ℕ, ◌-◌, length, get_or, set, sym, ap, ◌∙◌, arith}
+use Rattle.std.proofs.Common.{◌-◌, length, get_or, set, sym, ap, ◌∙◌, arith}
 use lib.Bits.{bit_xor}
-use Rattle.beetle.specs.Blocks.{xored, padded}
+use Rattle.beetle.specs.Blocks.{xored}
 use Rattle.beetle.proofs.Xors.{xored_pad, padded_short, padded_full}
 use Rattle.beetle.proofs.blocks.xor_padded.Goals as goal
 

@@ -1,7 +1,6 @@
-use Rattle.std.proofs.Common.{◌≡◌, ℕ, ◌<◌, ◌≤◌, cond, ltb, List, length, take, drop, replicate, sym, refl, ap, ◌∙◌, arith, length-drop, length-take-le, take_all}
+use Rattle.std.proofs.Common.{◌≡◌, ◌<◌, ◌≤◌, cond, ltb, length, take, drop, replicate, sym, ap, ◌∙◌, arith, length-drop, length-take-le, take_all}
 use Rattle.std.proofs.lemmas.Bool.{eqb-true, eqb-false, lt-ltb, le-ltb, cond-true, cond-false}
 use Rattle.beetle.specs.Blocks.{xored, padded, added, ending, absorbed}
-use Rattle.beetle.specs.Hashing.{taken}
 use Rattle.beetle.proofs.Xors.{padded_full}
 use Rattle.beetle.proofs.Cuts.{ending_below}
 use Rattle.beetle.proofs.Taken.{taken_empty, taken_short, taken_long}

@@ -1,4 +1,4 @@
-use Rattle.std.proofs.Common.{◌≡◌, ℕ, ◌+◌, length, get_or, ◌∙◌, arith, length-set}
+use Rattle.std.proofs.Common.{ℕ, get_or, ◌∙◌, arith, length-set}
 use Rattle.beetle.proofs.Shuffles.{low_more, high_more, halves_by}
 use Rattle.beetle.proofs.mode.joined.Goals as goal
 

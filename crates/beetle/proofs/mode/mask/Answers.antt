@@ -1,4 +1,4 @@
-use Rattle.std.proofs.Common.{◌≡◌, ℕ, ◌<◌, length, get_or, set, sym, ap, ◌∙◌, arith, get_or-set_other, get_or-set_same, below_more}
+use Rattle.std.proofs.Common.{◌∙◌, arith, get_or-set_other, get_or-set_same, below_more}
 use Rattle.beetle.proofs.Shuffles.{masked_by}
 use Rattle.beetle.proofs.mode.mask.Goals as goal
 

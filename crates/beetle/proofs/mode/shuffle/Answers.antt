@@ -1,4 +1,4 @@
-use Rattle.std.proofs.Common.{◌≡◌, ℕ, ◌+◌, ◌/◌, ◌<◌, ◌≤◌, length, get_or, set, sym, ap, ◌∙◌, arith, length-set}
+use Rattle.std.proofs.Common.{ℕ, ◌+◌, ◌/◌, get_or, sym, ap, ◌∙◌, arith, length-set}
 use Rattle.beetle.proofs.Shuffles.{turned, low_more, high_more, shuffled_by}
 use Rattle.beetle.proofs.mode.shuffle.Goals as goal
 

@@ -1,9 +1,9 @@
-use Rattle.std.proofs.Common.{◌≡◌, ℕ, ◌+◌, ◌-◌, ◌≤◌, true, false, ◌⊎◌, List, ◌++◌, length, take, drop, replicate, Some, None, sym, refl, ap, ◌∙◌, inl, inr, ⊎_elim, arith, length-drop, length-take}
+use Rattle.std.proofs.Common.{◌≡◌, ◌-◌, ◌++◌, length, take, drop, replicate, Some, None, sym, ap, ◌∙◌, inl, inr, ⊎_elim, arith, length-drop, length-take}
 use Rattle.std.specs.Str.{bytes_eq}
 use Rattle.beetle.specs.Outcomes.{Outcome}
 use Rattle.beetle.specs.Blocks.{blocks}
-use Rattle.beetle.specs.Mode.{Passed, rho_back, passed, begun, ended, tag}
-use Rattle.beetle.specs.Opening.{message_length, ciphertext, tag_in, opening, tag_of}
+use Rattle.beetle.specs.Mode.{rho_back, passed, ended, tag}
+use Rattle.beetle.specs.Opening.{ciphertext, tag_in, opening, tag_of}
 use Rattle.beetle.proofs.Ends.{open_long, open_short, open_judged, opened_cut, opened_same, opened_differs, zeros_after}
 use Rattle.beetle.proofs.Undoing.{laws}
 use Rattle.beetle.proofs.opening.open.Given as given

@@ -1,4 +1,4 @@
-use Rattle.std.proofs.Common.{◌≡◌, length}
+use Rattle.std.proofs.Common.{length}
 use Rattle.beetle.specs.Mode.{rho_back}
 use Rattle.beetle.proofs.Passes.{Going}
 use Rattle.beetle.proofs.opening.open_text.Given as goal

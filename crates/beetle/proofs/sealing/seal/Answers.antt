@@ -1,7 +1,7 @@
-use Rattle.std.proofs.Common.{◌≡◌, ◌+◌, ◌-◌, ◌++◌, length, take, drop, sym, refl, ap, ◌∙◌, arith}
+use Rattle.std.proofs.Common.{◌≡◌, ◌+◌, ◌-◌, ◌++◌, length, take, drop, sym, ap, ◌∙◌, arith}
 use Rattle.beetle.specs.Outcomes.{Outcome}
 use Rattle.beetle.specs.Blocks.{blocks}
-use Rattle.beetle.specs.Mode.{Passed, rho, passed, begun, ended, tag}
+use Rattle.beetle.specs.Mode.{rho, passed, ended, tag}
 use Rattle.beetle.specs.Sealing.{sealing, sealed}
 use Rattle.beetle.proofs.Ends.{seal_long, seal_short, seal_granted, tag_after}
 use Rattle.beetle.proofs.sealing.seal.Goals as goal

@@ -1,7 +1,7 @@
-use Rattle.std.proofs.Common.{◌≡◌, ◌+◌, ◌-◌, ◌<◌, ◌≤◌, length, take, drop, sym, refl, ap, ◌∙◌, arith, length-drop, length-take}
+use Rattle.std.proofs.Common.{◌≡◌, ◌+◌, ◌-◌, ◌≤◌, length, take, drop, sym, ap, ◌∙◌, arith, length-drop, length-take}
 use Rattle.std.proofs.lemmas.Bool.{eqb-true, eqb-false}
 use Rattle.beetle.specs.Mode.{rho}
-use Rattle.beetle.proofs.Passes.{Going, going_none, going_more, going_all}
+use Rattle.beetle.proofs.Passes.{going_none, going_more, going_all}
 use Rattle.beetle.proofs.sealing.seal_text.Goals as goal
 
 pub loop-rest-init : goal.loop-rest-init

@@ -1,4 +1,4 @@
-use Rattle.std.proofs.Common.{◌≡◌, length}
+use Rattle.std.proofs.Common.{length}
 use Rattle.beetle.specs.Mode.{rho}
 use Rattle.beetle.proofs.Passes.{Going}
 use Rattle.beetle.proofs.sealing.seal_text.Given as goal

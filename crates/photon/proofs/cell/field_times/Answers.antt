@@ -1,7 +1,6 @@
-use Rattle.std.proofs.Common.{◌≡◌, ℕ, ◌+◌, ◌-◌, ◌/◌, ◌%◌, ◌^◌, ◌<◌, cond, eqb, sym, refl, ap, ◌∙◌, subst, arith}
-use lib.Bits.{bit_xor, xor_zero_r}
+use Rattle.std.proofs.Common.{◌≡◌, ℕ, ◌+◌, ◌/◌, ◌%◌, ◌^◌, ◌<◌, cond, eqb, sym, ◌∙◌, subst}
+use lib.Bits.{bit_xor}
 use Rattle.std.proofs.lemmas.Bool.{cond-true, cond-false, eq-eqb, ne_eqb}
-use Rattle.photon.specs.Field.{times, times_low}
 use Rattle.photon.specs.Bounds.{times_z_small}
 use Rattle.photon.proofs.Product.{Digits, digits_more, digits_none, digits_all}
 use Rattle.photon.proofs.cell.field_times.Goals as goal

@@ -1,4 +1,4 @@
-use Rattle.std.proofs.Common.{◌≡◌, ℕ, ◌+◌, List, sym, refl, ap, ◌∙◌, subst, add-one, arith}
+use Rattle.std.proofs.Common.{◌≡◌, sym, refl, ap, ◌∙◌, subst, add-one, arith}
 use Rattle.photon.specs.Cells.{Nibbles}
 use Rattle.photon.specs.Photon.{by_m, by_ms}
 use Rattle.photon.specs.Bounds.{small_by_m}

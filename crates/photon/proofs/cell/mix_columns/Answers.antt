@@ -1,4 +1,4 @@
-use Rattle.std.proofs.Common.{◌≡◌, ℕ, List, [], map, length, get_or, sym, refl, ap, ◌∙◌, subst, arith}
+use Rattle.std.proofs.Common.{◌≡◌, [], map, length, get_or, sym, refl, ap, ◌∙◌, subst, arith}
 use Rattle.photon.specs.Cells.{Nibbles}
 use Rattle.photon.specs.Photon.{Square, by_ms, transposed, mix_column_serial}
 use Rattle.photon.specs.Bounds.{cells_transposed}

@@ -1,6 +1,6 @@
-use Rattle.std.proofs.Common.{◌≡◌, sym, ap, ◌∙◌, subst}
+use Rattle.std.proofs.Common.{sym, ap, ◌∙◌, subst}
 use Rattle.photon.specs.Cells.{Cells}
-use Rattle.photon.specs.Photon.{Square, add_constant, sub_cells, shift_rows, mix_column_serial, a_round}
+use Rattle.photon.specs.Photon.{sub_cells, shift_rows, mix_column_serial, a_round}
 use Rattle.photon.specs.Bounds.{cells_add_constant, cells_sub_cells, cells_shift_rows}
 use Rattle.photon.proofs.cell.one_round.Goals as goal
 

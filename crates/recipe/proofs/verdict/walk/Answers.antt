@@ -1,9 +1,7 @@
-use Rattle.std.proofs.Common.{◌≡◌, ◌+◌, min, Bool, true, false, cond, not, length, sym, ap, ◌∙◌, arith, true-eqb}
-use Rattle.std.proofs.lemmas.Bool.{false≢true, true≢false}
-use Rattle.recipe.specs.declared.trough.Phase.TheVariants.{Empty}
+use Rattle.std.proofs.Common.{◌+◌, min, sym, ap, ◌∙◌, arith}
 use Rattle.recipe.specs.Lines.{says}
 use Rattle.recipe.proofs.Back.{read_length}
-use Rattle.recipe.proofs.Walk.{some_bytes, walks, wrong_here, not_emptied, all_walked}
+use Rattle.recipe.proofs.Walk.{some_bytes, walks, wrong_here}
 use Rattle.recipe.proofs.verdict.walk.Goals as goal
 
 pub loop-rest-smaller : goal.loop-rest-smaller

@@ -1,6 +1,6 @@
 use Rattle.std.proofs.Common.{length, ap, arith}
 use Rattle.register.specs.Cover.{at_most_2048_runs}
-use Rattle.register.proofs.Walk.{Step, next_step, next_stop}
+use Rattle.register.proofs.Walk.{Step, next_step}
 use Rattle.register.proofs.page.count_runs.Given as given
 use Rattle.register.proofs.page.count_runs.Goals as goal
 use Rattle.register.proofs.page.count_runs.Goals.{In-Some}

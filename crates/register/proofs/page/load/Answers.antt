@@ -1,9 +1,9 @@
-use Rattle.std.proofs.Common.{◌≡◌, length, is_some, is_ok, sym, ap, ◌∙◌, arith}
+use Rattle.std.proofs.Common.{◌≡◌, is_some, is_ok, sym, ap, ◌∙◌, arith}
 use mathlib.Core.Path.{fun_ext}
 use Rattle.std.proofs.lemmas.Bool.{false≢true}
-use Rattle.register.specs.Page.{page, page_pairs}
+use Rattle.register.specs.Page.{page}
 use Rattle.register.specs.Runs.{run_count}
-use Rattle.register.proofs.Pages.{Loads, not_blank, bad_page, too_many_runs, load_granted, faultless, page_back, written_pages_load, blank_is_empty}
+use Rattle.register.proofs.Pages.{not_blank, bad_page, too_many_runs, load_granted, faultless, page_back, written_pages_load, blank_is_empty}
 use Rattle.register.proofs.Walk.{has_runs, has_none}
 use Rattle.register.proofs.page.load.Given as given
 use Rattle.register.proofs.page.load.Goals as goal

@@ -1,4 +1,4 @@
-use Rattle.std.proofs.Common.{◌≡◌, ◌+◌, ◌-◌, is_ok, Ok, sym, refl, ap, ◌∙◌, arith}
+use Rattle.std.proofs.Common.{◌+◌, ◌-◌, is_ok, Ok, sym, refl, ap, ◌∙◌, arith}
 use Rattle.std.proofs.lemmas.Bool.{true≢false}
 use Rattle.register.specs.Page.{with_pairs}
 use Rattle.register.proofs.Loading.{at, begun_pairs, at_fits, pair_starts, pair_goes_on, pair_ends}

@@ -1,4 +1,4 @@
-use Rattle.std.proofs.Common.{take, refl, ap, ◌∙◌, arith}
+use Rattle.std.proofs.Common.{refl, ap, ◌∙◌, arith}
 use Rattle.std.proofs.lemmas.List.{take_all}
 use Rattle.register.specs.Page.{page_pairs, with_pairs}
 use Rattle.register.proofs.page.mark_pairs.Goals as goal

@@ -1,4 +1,4 @@
-use Rattle.std.proofs.Common.{◌≡◌, ◌+◌, ◌*◌, length, drop, sym, ap, ◌∙◌, subst, arith, length-drop}
+use Rattle.std.proofs.Common.{◌≡◌, ◌+◌, ◌*◌, drop, sym, ap, ◌∙◌, arith, length-drop}
 use Rattle.register.specs.Page.{page_pairs, pair_fault}
 use Rattle.register.specs.Runs.{fits}
 use Rattle.register.proofs.Loading.{fault_on, fault_here, fault_none}

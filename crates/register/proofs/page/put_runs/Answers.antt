@@ -1,6 +1,6 @@
 use Rattle.std.proofs.Common.{arith}
 use Rattle.register.proofs.Walk.{Step, next_step, next_stop}
-use Rattle.register.proofs.Writing.{wrote_none, wrote_more, wrote_room, wrote_all}
+use Rattle.register.proofs.Writing.{wrote_more, wrote_room, wrote_all}
 use Rattle.register.proofs.page.put_runs.Given as given
 use Rattle.register.proofs.page.put_runs.Goals as goal
 use Rattle.register.proofs.page.put_runs.Goals.{In-Some}

@@ -1,4 +1,4 @@
-use Rattle.std.proofs.Common.{◌+◌, ◌*◌, ◌++◌, drop, Ok, sym, ap, ◌∙◌, arith}
+use Rattle.std.proofs.Common.{◌+◌, ◌*◌, ◌++◌, drop, Ok, ap, ◌∙◌, arith}
 use Rattle.register.specs.Page.{word}
 use Rattle.register.proofs.Pages.{pages_tell_sets}
 use Rattle.register.proofs.Writing.{too_short, written, wrote_page}

@@ -1,6 +1,6 @@
 use Rattle.std.proofs.Common.{◌≡◌, sym, refl, ap, ◌∙◌, subst, add-one, arith}
 use Rattle.photon.specs.Cells.{Cells}
-use Rattle.photon.specs.Photon.{Square, a_round, rounds, square_of, bytes_of, photon256}
+use Rattle.photon.specs.Photon.{Square, a_round, rounds, bytes_of, photon256}
 use Rattle.photon.specs.Bounds.{cells_square_of, cells_a_round}
 use Rattle.photon.proofs.cell.CellEngineEngine.permute.Goals as goal
 

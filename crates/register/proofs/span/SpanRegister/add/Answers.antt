@@ -1,7 +1,7 @@
-use Rattle.std.proofs.Common.{◌≡◌, sym, arith}
+use Rattle.std.proofs.Common.{arith}
 use Rattle.register.specs.Spans.{listed}
 use Rattle.register.proofs.Changes.{Place, place}
-use Rattle.register.proofs.Touching.{joins, joined_size, joins_fit, lengthens, longer_size, lengthens_fit, advances, earlier_size, advances_fit, stands, stands_size, stays_sound, granted_at, refused_by}
+use Rattle.register.proofs.Touching.{joins, joined_size, joins_fit, lengthens, longer_size, advances, earlier_size, advances_fit, stands, stands_size, stays_sound, granted_at, refused_by}
 use Rattle.register.proofs.span.SpanRegister.add.Goals as goal
 use Rattle.register.proofs.span.SpanRegister.add.Goals.{After-touches_at}
 

@@ -1,4 +1,4 @@
-use Rattle.std.proofs.Common.{◌≡◌, Some, sym, ap, ◌∙◌, arith}
+use Rattle.std.proofs.Common.{Some, ap, ◌∙◌, arith}
 use Rattle.register.specs.Runs.{covered}
 use Rattle.register.specs.Spans.{listed}
 use Rattle.register.specs.Cover.{covered_small}
