@@ -1,7 +1,7 @@
 -- The verdict by lists of lines. Assumes nothing.
 use Rattle.std.proofs.Common.{◌≡◌, ℕ, zero, suc, ◌+◌, ◌<◌, ◌≤◌, true, leb, List, [], ◌∷◌, ◌++◌, length, get_or, Some, None, Ok, Err, Option, Result, sym, refl, ap, ◌∙◌, subst, subst₂, append_assoc, append-nil, zero-add, arith, MatchResult}
 use Rattle.std.specs.List.{flat_map, AllByRecursion}
-use Rattle.std.proofs.ByRecursion.{AllByRecursion-push}
+use Rattle.std.proofs.ByRecursion.{All-push}
 use Rattle.std.proofs.lemmas.List.{get_or-append-add, flat_map_more, length-append}
 use Rattle.std.proofs.lemmas.Bool.{le-leb, lt-leb, leb-true, leb-false, cond-true, cond-false, cond_both}
 use Rattle.refusal.specs.declared.Refusal.{Refusal}
@@ -106,7 +106,7 @@ refused bs k f (too_much es b p h) = weighed_whole bs es b p ∙ cond-false _ _ 
 -- one more line
 begins_more : (bs : List ℕ) (es : List Entry) (e : Entry) (after rest : List ℕ) → Begins bs es rest → Stands e after rest → Begins bs (es ++ e ∷ []) after
 begins_more bs es e after rest b h = record {
-  ranges = AllByRecursion-push (λ x. in_range x ≡ true) es e b.ranges h.0;
+  ranges = All-push (λ x. in_range x ≡ true) es e b.ranges h.0;
   bytes = b.bytes ∙ ap (λ l. flat_map bytes_of es ++ l) h.1 ∙ sym (append_assoc (flat_map bytes_of es) (bytes_of e) after) ∙ ap (λ l. l ++ after) (flat_map_more bytes_of [] es e);
 }
 
