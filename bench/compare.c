@@ -6,7 +6,7 @@
 #include <string.h>
 #include <time.h>
 
-/* The library's calls (crates/exports). A slice is a pointer and a length. Each answers 0, or the refusal's number. */
+/* The library's calls (crates/exports_c). A slice is a pointer and a length. Each answers 0, or the refusal's number. */
 uint8_t lochgrater_hash(const uint8_t *text, size_t len, uint8_t *out, size_t outlen);
 uint8_t lochgrater_seal_128(const uint8_t *key, const uint8_t *nonce, const uint8_t *ad, size_t adlen, const uint8_t *text, size_t len, uint8_t *out, size_t outlen);
 uint8_t lochgrater_seal_32(const uint8_t *key, const uint8_t *nonce, const uint8_t *ad, size_t adlen, const uint8_t *text, size_t len, uint8_t *out, size_t outlen);

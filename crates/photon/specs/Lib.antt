@@ -3,7 +3,7 @@ pub mod Cells
 pub mod Field
 pub mod Photon
 pub mod Table
-pub mod BenchEngineEngineLemmas
+pub mod Reversal
 pub mod Bounds
 pub mod Computed
 pub mod Squares

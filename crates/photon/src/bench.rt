@@ -2,7 +2,7 @@
 ghost use Rattle.std.specs.Prelude.{reverse};
 ghost use Rattle.std.proofs.Common.{◌∙◌};
 ghost use Rattle.std.proofs.lemmas.List.{length-reverse};
-ghost use Rattle.photon.specs.BenchEngineEngineLemmas.{small_reverse};
+ghost use Rattle.photon.specs.Reversal.{small_reverse};
 
 use crate::Engine;
 

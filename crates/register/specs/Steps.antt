@@ -1,4 +1,4 @@
--- One step of `stretch` and of `runs-from`, and what follows by going on.
+-- One step of `stretch` and of `runs_from`, and what follows by going on.
 -- Assumes nothing.
 use Rattle.std.specs.Prelude.{◌≡◌, ℕ, zero, suc, ◌+◌, ◌-◌, ◌<◌, ◌≤◌, true, false, List, [], ◌∷◌}
 use Rattle.std.proofs.Common.{⊎_elim, sym, ◌∙◌, add-zero}

@@ -1,3 +1,4 @@
+-- The law of the bench engine: a list of bytes, turned end for end, is a list of bytes. A lemma, and no definition.
 use Rattle.std.proofs.Common.{sym, subst, ⊎_elim, arith}
 use Rattle.std.specs.Prelude.{ℕ, ◌-◌, ◌<◌, List, reverse, length, slice_index}
 use Rattle.std.proofs.lemmas.List.{length-reverse, get_or-reverse, get_or_past}
