@@ -5,6 +5,7 @@ ghost use Rattle.std.specs.Prelude.{◌≡◌, Some};
 ghost use Rattle.refusal.specs.Line.{layer_name, reason_of, line};
 ghost use Rattle.refusal.specs.Told.{told};
 
+use std::error::Error;
 use std::fmt;
 
 /// The layer whose rule refused.
@@ -29,6 +30,15 @@ impl Layer {
             Layer::Register => "register",
             Layer::Page => "page",
         }
+    }
+}
+
+impl fmt::Display for Layer {
+    ghost output = { λ l. Some (layer_name l) };
+
+    fn fmt<W: fmt::Write>(&self, f: &mut fmt::Formatter<W>) -> fmt::Result {
+        let name = self.name();
+        write!(f, "{name}")
     }
 }
 
@@ -149,19 +159,20 @@ impl Refusal {
     }
 }
 
-/// The one form in which every program prints a refusal.
+/// The one form in which every program prints a refusal. By hand: a derive states nothing of its text.
 impl fmt::Display for Refusal {
     ghost output = { λ e. Some (line e) };
 
     fn fmt<W: fmt::Write>(&self, f: &mut fmt::Formatter<W>) -> fmt::Result {
         let number = self.number();
         let layer = self.layer();
-        let name = layer.name();
         let place = self.place();
         let reason = self.reason();
         write!(
             f,
-            "refused by {number}, layer {name}, place {place}: {reason}"
+            "refused by {number}, layer {layer}, place {place}: {reason}"
         )
     }
 }
+
+impl Error for Refusal {}
