@@ -1,4 +1,4 @@
-pub mod Filled
+pub mod Made
 pub mod Moves
 pub mod Product
 pub mod TableBits

@@ -19,7 +19,7 @@ times_1 : (x : ℕ) → times 1 x ≡ x
 unfolding times
 times_1 x = xor_zero_r x
 
-by_m_eight : (a b c d e f g h : ℕ) → by_m (a ∷ b ∷ c ∷ d ∷ e ∷ f ∷ g ∷ h ∷ []) ≡ moved (a ∷ b ∷ c ∷ d ∷ e ∷ f ∷ g ∷ h ∷ [])
+pub by_m_eight : (a b c d e f g h : ℕ) → by_m (a ∷ b ∷ c ∷ d ∷ e ∷ f ∷ g ∷ h ∷ []) ≡ moved (a ∷ b ∷ c ∷ d ∷ e ∷ f ∷ g ∷ h ∷ [])
 unfolding by_m
 by_m_eight a b c d e f g h = simp (times_0, times_1, xor_zero_r)
 

@@ -1,31 +1,16 @@
 -- The shifts and masks of the table engine, as cells. Assumes nothing.
-use Rattle.std.proofs.Common.{◌≡◌, ℕ, zero, suc, ◌+◌, ◌-◌, ◌*◌, ◌/◌, ◌%◌, ◌^◌, ◌<◌, ◌≤◌, cond, eqb, List, [], ◌∷◌, length, get_or, drop, sym, ap, ◌∙◌, subst, ap₂, lt_of_lt_of_le, arith, length-drop, pow_mono, pow-add, w8, w64, Fits}
+use Rattle.std.proofs.Common.{◌≡◌, ℕ, zero, suc, ◌+◌, ◌-◌, ◌*◌, ◌/◌, ◌%◌, ◌^◌, ◌<◌, ◌≤◌, cond, eqb, List, [], ◌∷◌, length, get_or, drop, sym, refl, ap, ◌∙◌, subst, ap₂, lt_of_lt_of_le, arith, length-drop, pow_mono, pow-add}
+use Rattle.std.specs.List.{fold}
 use lib.Arith.{digits_lt}
-use lib.Bits.{bit_and, bit_or, and_le_r, and_mask, and_high, or_lt, or_shifted}
+use lib.Bits.{bit_and, bit_or, and_mask, and_high, or_shifted}
 use Rattle.std.proofs.lemmas.Nat.{shr-shr, shl_whole}
 use Rattle.std.proofs.lemmas.List.{drop_more, get_or-drop}
 use Rattle.photon.specs.Photon.{cell, half, square_of}
 use Rattle.photon.specs.Table.{packed, column_of, unpacked, turned}
-use Rattle.photon.specs.Cells.{Nibbles}
-use Rattle.photon.specs.Bounds.{byte_of, half_small, cells_square_of}
+use Rattle.photon.specs.Cells.{Nibbles, byte_of}
+use Rattle.photon.specs.Bounds.{half_small, cells_square_of}
 use Rattle.photon.specs.Squares.{cell_square}
 use Rattle.photon.proofs.TableColumns.{length_column_of, cell_column_of, cell_unpacked, small_column_of}
-
--- a high and a low half make a byte
-pub halves_below : (x y : ℕ) → bit_or (bit_and x 240) (bit_and y 15) < 256
-halves_below x y =
-    let hx = and_le_r x 240 in
-    let hy = and_le_r y 15 in
-    or_lt 8 (bit_and x 240) (bit_and y 15) (omega arith) (omega arith)
-
-pub halves_fit : (x y : ℕ) → Fits w64 (bit_or (bit_and x 240) (bit_and y 15))
-halves_fit x y = omega (arith, halves_below x y)
-
-pub raised_fit : (x y : ℕ) → Fits w8 (bit_or (bit_and x 15 * 16 % 2 ^ 32) (bit_and y 15))
-raised_fit x y =
-    let hx = and_le_r x 15 in
-    let hy = and_le_r y 15 in
-    record { fits = or_lt 8 (bit_and x 15 * 16 % 2 ^ 32) (bit_and y 15) (omega arith) (omega arith) }
 
 -- two neighbouring rows of two columns, as the index of an entry
 pub index_is : (w : List ℕ) (j t : ℕ) → j < 8 → t < 4 → bit_or (bit_and (get_or w ((j + 2 * t + 1) % 8) 0 / 2 ^ (8 * t)) 240) (bit_and (get_or w ((j + 2 * t) % 8) 0 / 2 ^ (8 * t)) 15) ≡ turned (unpacked w) j t
@@ -95,6 +80,20 @@ loaded_more s j i a b h hj lo hi ea eb =
     ∙ or_shifted a 4 (half s (8 * (i - 1) + j)) (half_small s (8 * (i - 1) + j) h)
     ∙ ap₂ (λ m n. m * 16 + n) ea there
     ∙ ap packed (sym rows)
+
+-- the numbers below n, downwards
+abbrev pub downwards : ℕ → List ℕ
+downwards zero = []
+downwards (suc n) = n ∷ downwards n
+
+-- all eight rows, from the last one up
+pub loaded : (s : List ℕ) (j i a : ℕ) → Fill s → j < 8 → i ≤ 8 → a ≡ packed (drop i (column_of (square_of s) j)) → fold (λ column i. bit_or (column * 16 % 2 ^ 32) (bit_and (get_or s (4 * i + j / 2) 0 / 2 ^ (4 * (j % 2))) 15)) a (downwards i) ≡ packed (column_of (square_of s) j)
+loaded s j zero a h hj hi e = e
+loaded s j (suc i) a h hj hi e =
+    let below : suc i - 1 ≡ i = omega arith in
+    let more = subst (λ k. bit_or (a * 16 % 2 ^ 32) (bit_and (get_or s (4 * k + j / 2) 0 / 2 ^ (4 * (j % 2))) 15) ≡ packed (drop k (column_of (square_of s) j))) below
+    (loaded_more s j (suc i) a (bit_and (get_or s (4 * (suc i - 1) + j / 2) 0 / 2 ^ (4 * (j % 2))) 15) h hj (omega arith) hi e refl) in
+    loaded s j i (bit_or (a * 16 % 2 ^ 32) (bit_and (get_or s (4 * i + j / 2) 0 / 2 ^ (4 * (j % 2))) 15)) h hj (omega arith) more
 
 -- ---- storing
 

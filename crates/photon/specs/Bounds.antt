@@ -1,13 +1,13 @@
 -- Every step of PHOTON256 keeps cells of 4 bits, so the whole sends 32 bytes to 32 bytes. Assumes nothing.
 use Rattle.std.proofs.Common.{sym, subst, ⊎_elim, arith, ltb→lt}
-use Rattle.std.specs.Prelude.{ℕ, zero, suc, ◌+◌, ◌*◌, ◌/◌, ◌%◌, ◌<◌, ◌≤◌, cond, T, List, [], ◌∷◌, map, length, ◌==◌, bit_xor, nat_lt, slice_index}
+use Rattle.std.specs.Prelude.{ℕ, zero, suc, ◌+◌, ◌*◌, ◌/◌, ◌%◌, ◌<◌, ◌≤◌, if◌then◌else◌, T, List, [], ◌∷◌, map, length, ◌==◌, bit_xor, nat_lt, slice_index}
 use Rattle.std.proofs.lemmas.Nat.{xor_lt}
 use Rattle.std.specs.List.{range_with_len}
 use Rattle.std.proofs.lemmas.List.FromFn.{get_or-map-range_with_len, length-map-range_with_len}
 use Rattle.std.proofs.lemmas.List.{get_or_past}
 use Rattle.std.proofs.lemmas.Bool.{cases_lt, cond_both}
 use Rattle.photon.specs.Bytes.{Bytes}
-use Rattle.photon.specs.Cells.{Nibbles}
+use Rattle.photon.specs.Cells.{Nibbles, byte_of}
 use Rattle.photon.specs.Field.{times_z, times_low, times, dot}
 use Rattle.photon.specs.Photon.{Square, cell, round_constants, row_constants, s_box, serial, add_constant, sub_cells, shift_rows, transposed, by_m, by_ms, mix_column_serial, a_round, rounds, half, square_of, bytes_of, photon256}
 use Rattle.photon.specs.Computed.{every, at, below}
@@ -39,7 +39,7 @@ times_z_small b h = ltb→lt (times_z b) 16 (below (λ b. nat_lt (times_z b) 16)
 times_low_small : (n a b : ℕ) → b < 16 → times_low n a b < 16
 times_low_small zero a b h = omega arith
 times_low_small (suc n) a b h =
-    xor_small (cond (a % 2 == 1) b 0) (times_low n (a / 2) (times_z b))
+    xor_small (if a % 2 == 1 then b else 0) (times_low n (a / 2) (times_z b))
     (cond_both (a % 2 == 1) b 0 (λ x. x < 16) (λ e. h) (λ e. omega arith))
     (times_low_small n (a / 2) (times_z b) (times_z_small b h))
 
@@ -69,7 +69,7 @@ small_by_ms (suc n) c h = small_by_m (by_ms n c) (small_by_ms n c h)
 pub cells_add_constant : (X : Square) (k : ℕ) → Cells X → Cells (add_constant X k)
 unfolding add_constant
 cells_add_constant X k h =
-    cells_square (λ i j. cond (j == 0) (bit_xor (bit_xor (cell X i 0) (slice_index round_constants k)) (slice_index row_constants i)) (cell X i j))
+    cells_square (λ i j. (if j == 0 then bit_xor (bit_xor (cell X i 0) (slice_index round_constants k)) (slice_index row_constants i) else cell X i j))
     (λ i j hi hj. cond_both (j == 0) (bit_xor (bit_xor (cell X i 0) (slice_index round_constants k)) (slice_index row_constants i)) (cell X i j) (λ n. n < 16)
     (λ e. xor_small (bit_xor (cell X i 0) (slice_index round_constants k)) (slice_index row_constants i) (xor_small (cell X i 0) (slice_index round_constants k) (h i 0) (small_round_constants k)) (small_row_constants i))
     (λ e. h i j))
@@ -116,10 +116,6 @@ half_small s c h =
 pub cells_square_of : (s : List ℕ) → ((i : ℕ) → slice_index s i < 256) → Cells (square_of s)
 unfolding square_of
 cells_square_of s h = cells_square (λ i j. half s (8 * i + j)) (λ i j hi hj. half_small s (8 * i + j) h)
-
--- byte k of a square
-abbrev pub byte_of : Square → ℕ → ℕ
-byte_of X k = cell X (2 * k / 8) (2 * k % 8) + 16 * cell X ((2 * k + 1) / 8) ((2 * k + 1) % 8)
 
 pub byte_of_small : (X : Square) (k : ℕ) → Cells X → byte_of X k < 256
 byte_of_small X k h = omega (arith, h (2 * k / 8) (2 * k % 8), h ((2 * k + 1) / 8) ((2 * k + 1) % 8))

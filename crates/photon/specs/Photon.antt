@@ -1,6 +1,6 @@
 -- PHOTON256, in the steps and the order in which it is published.
 -- Assumes nothing.
-use Rattle.std.specs.Prelude.{ℕ, zero, suc, ◌+◌, ◌*◌, ◌/◌, ◌%◌, cond, List, [], ◌∷◌, map, ◌==◌, bit_xor, slice_index, slice_index_or}
+use Rattle.std.specs.Prelude.{ℕ, zero, suc, ◌+◌, ◌*◌, ◌/◌, ◌%◌, if◌then◌else◌, List, [], ◌∷◌, map, ◌==◌, bit_xor, slice_index, slice_index_or}
 use Rattle.std.specs.List.{range_with_len}
 use Rattle.photon.specs.Field.{dot}
 
@@ -43,7 +43,7 @@ serial =
 
 -- X[i, 0] becomes X[i, 0] + RC[k] + IC[i]
 unfoldable pub add_constant : Square → ℕ → Square
-add_constant X k = square (λ i j. cond (j == 0) (bit_xor (bit_xor (cell X i 0) (slice_index round_constants k)) (slice_index row_constants i)) (cell X i j))
+add_constant X k = square (λ i j. (if j == 0 then bit_xor (bit_xor (cell X i 0) (slice_index round_constants k)) (slice_index row_constants i) else cell X i j))
 
 -- X[i, j] becomes S(X[i, j])
 unfoldable pub sub_cells : Square → Square
@@ -80,7 +80,7 @@ rounds (suc n) X = a_round (rounds n X) n
 
 -- cell c of the state lies at row c div 8 and column c mod 8; byte k holds cell 2k in its low half and 2k + 1 in its high half
 abbrev pub half : List ℕ → ℕ → ℕ
-half s c = cond (c % 2 == 0) (slice_index s (c / 2) % 16) (slice_index s (c / 2) / 16)
+half s c = (if c % 2 == 0 then slice_index s (c / 2) % 16 else slice_index s (c / 2) / 16)
 
 unfoldable pub square_of : List ℕ → Square
 square_of s = square (λ i j. half s (8 * i + j))

@@ -1,6 +1,6 @@
 -- The columns of a square as numbers of 32 bits, and the rule of the table that joins S and M^8.
 -- Assumes nothing.
-use Rattle.std.specs.Prelude.{ℕ, ◌+◌, ◌*◌, ◌/◌, ◌%◌, ◌^◌, cond, List, [], ◌∷◌, map, ◌==◌, bit_xor, slice_index}
+use Rattle.std.specs.Prelude.{ℕ, ◌+◌, ◌*◌, ◌/◌, ◌%◌, ◌^◌, if◌then◌else◌, List, [], ◌∷◌, map, ◌==◌, bit_xor, slice_index}
 use Rattle.std.specs.List.{range_with_len}
 use Rattle.photon.specs.Photon.{Square, cell, square, round_constants, row_constants, s_box, by_ms}
 
@@ -23,7 +23,7 @@ unpacked w = square (λ i j. slice_index w j / 2 ^ (4 * i) % 16)
 
 -- the column that has S(low half of v) in row 2t, S(high half of v) in row 2t + 1 and 0 elsewhere
 unfoldable pub pair : ℕ → ℕ → List ℕ
-pair t v = map (λ i. cond (i == 2 * t) (slice_index s_box (v % 16)) (cond (i == 2 * t + 1) (slice_index s_box (v / 16)) 0)) (range_with_len 0 8)
+pair t v = map (λ i. (if i == 2 * t then slice_index s_box (v % 16) else (if i == 2 * t + 1 then slice_index s_box (v / 16) else 0))) (range_with_len 0 8)
 
 -- what rows 2t and 2t + 1 of column j take from X once row i is turned by i: the v of that pair
 abbrev pub turned : Square → ℕ → ℕ → ℕ

@@ -6,6 +6,7 @@ ghost use Rattle.photon.specs.Reversal.{small_reverse};
 
 use crate::Engine;
 
+/// Turns the state end for end.
 #[derive(Clone, Copy)]
 pub struct BenchEngine;
 

@@ -3,6 +3,7 @@
 
 mod bench;
 mod cell;
+mod field;
 mod table;
 
 ghost use Rattle.std.specs.Prelude.{◌≡◌, ℕ, List};

@@ -1,12 +1,14 @@
 //! The table engine: PHOTON256 through one table that joins S and M^8. The state stays eight columns of 32 bits
 //! through the rounds, row i of a column in bits 4i to 4i + 3; bytes are touched only at the ends.
-ghost use Rattle.std.specs.Prelude.{◌≡◌, ◌+◌, ◌*◌, ◌<◌, map};
+ghost use Rattle.std.specs.Prelude.{◌≡◌, ℕ, ◌+◌, ◌*◌, ◌<◌, map};
 ghost use Rattle.std.specs.List.{range_with_len};
 ghost use Rattle.photon.specs.Photon.{a_round, bytes_of, by_ms, photon256, shift_rows, square_of, sub_cells};
 ghost use Rattle.photon.specs.Table.{column_of, columns_of, constant_of, entry_of, packed, turned, unpacked};
 ghost use Rattle.photon.specs.Bounds.{bytes_photon256};
+ghost use Rattle.photon.specs.Cells.{byte_of};
 
 use crate::Engine;
+use std::array;
 
 /// Entry 256 t + v is M^8 times the column that has S(low half of v) in row 2t, S(high half of v) in row 2t + 1 and 0
 /// elsewhere; row i of the product fills bits 4i to 4i + 3.
@@ -147,10 +149,6 @@ const ROUND: [u32; 12] = [
     0x1576ea89, 0xaecd5132, 0xd9ba2645, 0x2645d9ba,
 ];
 
-/// PHOTON256 through the table.
-#[derive(Clone, Copy)]
-pub struct TableEngine;
-
 /// The table; its rule is tested here, once for all entries.
 fn table() -> &'static [u32; 1024]
     ensures { result.now ≡ map entry_of (range_with_len 0 1024) }
@@ -165,42 +163,62 @@ fn constants() -> &'static [u32; 12]
     &ROUND
 }
 
-/// Rows 2t and 2t + 1 of column j, once row i is turned by i: one byte, row 2t in its low half.
-fn index(columns: &[u32; 8], j: usize, t: usize) -> usize
-    requires { (j < 8) × (t < 4) }
-    ensures value { result ≡ turned (unpacked columns.now) j t }
-    ensures below { result < 256 }
-{
-    let low = columns[(j + 2 * t) % 8] >> (8 * t) & 0x0f;
-    let high = columns[(j + 2 * t + 1) % 8] >> (8 * t) & 0xf0;
-    (high | low) as usize
-}
+/// The state as its eight columns. Columns and pairs of rows go by plain numbers, since a type for a number below 8 or 4
+/// would have to be made at each call.
+#[derive(Clone, Copy)]
+struct Columns([u32; 8]);
 
-/// The entry of the table for these two rows.
-fn entry(columns: &[u32; 8], j: usize, t: usize) -> u32
-    requires { (j < 8) × (t < 4) }
-    ensures { result ≡ entry_of (256 * t + turned (unpacked columns.now) j t) }
-{
-    table()[256 * t + index(columns, j, t)]
-}
+impl Columns {
+    /// The round that adds this constant.
+    fn round(self, constant: u32) -> Self
+        ensures { (k : ℕ) → constant ≡ constant_of k → result.0 ≡ columns_of (a_round (unpacked self.0) k) }
+    {
+        let mut added = self;
+        added.0[0] ^= constant;
+        Columns(array::from_fn(|j| added.next_column(j)))
+    }
 
-/// Column j after S, the turn of rows and M^8.
-fn next_column(columns: &[u32; 8], j: usize) -> u32
-    requires { j < 8 }
-    ensures { result ≡ packed (by_ms 8 (column_of (shift_rows (sub_cells (unpacked columns.now))) j)) }
-{
-    entry(columns, j, 0) ^ entry(columns, j, 1) ^ entry(columns, j, 2) ^ entry(columns, j, 3)
-}
+    /// Column j after S, the turn of rows and M^8.
+    #[tactic(auto, using(crate::proofs::TableRound::four_entries, crate::proofs::TableColumns::cells_unpacked))]
+    fn next_column(&self, j: usize) -> u32
+        requires { j < 8 }
+        ensures { result ≡ packed (by_ms 8 (column_of (shift_rows (sub_cells (unpacked self.now.0))) j)) }
+    {
+        self.entry(j, 0) ^ self.entry(j, 1) ^ self.entry(j, 2) ^ self.entry(j, 3)
+    }
 
-/// Round k.
-fn round(columns: &mut [u32; 8], k: usize)
-    requires { k < 12 }
-    ensures { columns.new ≡ columns_of (a_round (unpacked columns.old) k) }
-{
-    let mut old = *columns;
-    old[0] ^= constants()[k];
-    for j in 0..8 {
-        columns[j] = next_column(&old, j);
+    /// The entry of the table for rows 2t and 2t + 1 of column j, once row i is turned by i.
+    fn entry(&self, j: usize, t: usize) -> u32
+        requires column { j < 8 }
+        requires rows { t < 4 }
+        ensures { result ≡ entry_of (256 * t + turned (unpacked self.now.0) j t) }
+    {
+        table()[256 * t + self.turned(j, t)]
+    }
+
+    /// Those two rows as one byte, row 2t in its low half.
+    #[tactic(auto, using(crate::proofs::TableBits::index_is))]
+    fn turned(&self, j: usize, t: usize) -> usize
+        requires column { j < 8 }
+        requires rows { t < 4 }
+        ensures value { result ≡ turned (unpacked self.now.0) j t }
+        ensures below { result < 256 }
+    {
+        let low = self.0[(j + 2 * t) % 8] >> (8 * t) & 0x0f;
+        let high = self.0[(j + 2 * t + 1) % 8] >> (8 * t) & 0xf0;
+        // `as`, since `usize` has no `From<u32>`, and in `byte` no `From` narrows; the check proves that nothing is lost.
+        (high | low) as usize
+    }
+
+    /// Byte k of the state: row k div 4 of columns 2 (k mod 4) and 2 (k mod 4) + 1.
+    #[tactic(auto, using(crate::proofs::TableBits::byte_is))]
+    fn byte(&self, k: usize) -> u8
+        requires { k < 32 }
+        ensures { result ≡ byte_of (unpacked self.now.0) k }
+    {
+        let low = self.0[2 * (k % 4)] >> (4 * (k / 4)) & 0x0f;
+        let high = self.0[2 * (k % 4) + 1] >> (4 * (k / 4)) & 0x0f;
+        (high << 4 | low) as u8
     }
 }
 
@@ -209,35 +227,31 @@ fn load_column(state: &[u8; 32], j: usize) -> u32
     requires { j < 8 }
     ensures { result ≡ packed (column_of (square_of state.now) j) }
 {
-    let mut column = 0u32;
-    for i in (0..8).rev() {
+    (0..8).rev().fold(0, |column, i| {
         let half = state[4 * i + j / 2] >> (4 * (j % 2)) & 0x0f;
-        column = column << 4 | u32::from(half);
-    }
-    column
+        column << 4 | u32::from(half)
+    })
 }
 
-/// The eight columns of the state.
-fn load(state: &[u8; 32]) -> [u32; 8]
-    ensures { result ≡ columns_of (square_of state.now) }
-{
-    let mut columns = [0u32; 8];
-    for j in 0..8 {
-        columns[j] = load_column(state, j);
+impl From<&[u8; 32]> for Columns {
+    ghost from_gives = { λ state columns. columns.0 ≡ columns_of (square_of state.now) };
+
+    fn from(state: &[u8; 32]) -> Self {
+        Columns(array::from_fn(|j| load_column(state, j)))
     }
-    columns
 }
 
-/// The bytes of eight columns, written over the state.
-fn store(columns: &[u32; 8], state: &mut [u8; 32])
-    ensures { state.new ≡ bytes_of (unpacked columns.now) }
-{
-    for k in 0..32 {
-        let low = columns[2 * (k % 4)] >> (4 * (k / 4)) & 0x0f;
-        let high = columns[2 * (k % 4) + 1] >> (4 * (k / 4)) & 0x0f;
-        state[k] = (high << 4 | low) as u8;
+impl From<Columns> for [u8; 32] {
+    ghost from_gives = { λ columns state. state ≡ bytes_of (unpacked columns.0) };
+
+    fn from(columns: Columns) -> Self {
+        array::from_fn(|k| columns.byte(k))
     }
 }
+
+/// PHOTON256 through the table.
+#[derive(Clone, Copy)]
+pub struct TableEngine;
 
 impl Engine for TableEngine {
     ghost permutes = { λ _ s. photon256 s };
@@ -245,10 +259,11 @@ impl Engine for TableEngine {
     ghost stays = { λ e s h. bytes_photon256 s h };
 
     fn permute(&self, state: &mut [u8; 32]) {
-        let mut columns = load(state);
-        for k in 0..12 {
-            round(&mut columns, k);
+        // As in the cell engine, over another form of the state: a trait for the two would be longer than both.
+        let mut columns = Columns::from(&*state);
+        for constant in constants() {
+            columns = columns.round(*constant);
         }
-        store(&columns, state);
+        *state = columns.into();
     }
 }

@@ -1,18 +1,15 @@
-use Rattle.std.proofs.Common.{ℕ, ◌+◌, drop, sym, ap, ◌∙◌, subst, arith}
-use lib.Bits.{bit_xor, xor_zero_r}
-use Rattle.std.proofs.lemmas.List.{drop_all}
+use Rattle.std.proofs.Common.{rules, ◌∙◌}
+use lib.Bits.{bit_xor}
+use Rattle.std.proofs.lemmas.Iterator.{YieldsList-from_slice, YieldsList-from_zip}
+use Rattle.std.proofs.lemmas.Iterator.Consumers.{fold_from_yields_List}
 use Rattle.photon.specs.Cells.{last_row}
-use Rattle.photon.specs.Field.{dot}
-use Rattle.photon.proofs.Product.{Cellwise, cellwise_more}
+use Rattle.photon.specs.Field.{times}
+use Rattle.photon.proofs.Product.{fold_dot}
 use Rattle.photon.proofs.cell.last_cell.Goals as goal
-
-pub loop-i-preserved : goal.loop-i-preserved
-loop-i-preserved c =
-    subst (λ (n : ℕ). Cellwise last_row c.args.c.now (c.loop-i.i + 1) (bit_xor c.loop-i.sum n)) (sym c.field_times-sum.ensures)
-    (cellwise_more last_row c.args.c.now c.loop-i.i c.loop-i.sum (omega arith) (omega arith) c.loop-i.invariant)
 
 pub returns : goal.returns
 returns c =
-    sym (xor_zero_r c.loop-i.sum)
-    ∙ ap (λ l. bit_xor c.loop-i.sum (dot l (drop c.loop-i.i c.args.c.now))) (sym (drop_all c.loop-i.i last_row (omega arith)))
-    ∙ c.loop-i.invariant
+    fold_from_yields_List _ (λ sum p. bit_xor sum (times p.0 p.1)) 0 c.fold.result c.fold.ensures.ran
+    (YieldsList-from_zip (YieldsList-from_slice last_row (cc)) (YieldsList-from_slice c.args.column.now (cc)))
+    (λ sum p next f told. search rules)
+    ∙ fold_dot last_row c.args.column.now 0
