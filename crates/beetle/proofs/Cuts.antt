@@ -1,5 +1,5 @@
 -- A text cut into blocks: a first block and the rest. Assumes nothing.
-use Rattle.std.proofs.Common.{◌≡◌, ℕ, zero, suc, ◌<◌, ◌≤◌, min, List, [], ◌∷◌, length, take, drop, sym, refl, ap, ◌∙◌, subst, arith, length-drop}
+use Rattle.std.proofs.Common.{◌≡◌, ℕ, zero, suc, ◌<◌, ◌≤◌, List, [], ◌∷◌, length, take, drop, sym, refl, ap, subst, arith, length-drop}
 use Rattle.std.proofs.lemmas.Bool.{cond_both}
 use Rattle.beetle.specs.Blocks.{ending, xored, padded, blocks_up_to, blocks, absorbed_blocks, absorbed}
 
@@ -15,9 +15,10 @@ enough (suc m) (suc n) r (x ∷ D) h k p =
     let e = length-drop r (x ∷ D) in
     ap (λ l. take r (x ∷ D) ∷ l) (enough m n r (drop r (x ∷ D)) (omega arith) (omega arith) p)
 
-pub blocks_none : (r : ℕ) → blocks r [] ≡ []
+pub blocks_none : (r : ℕ) (D : List ℕ) → length D ≡ 0 → blocks r D ≡ []
 unfolding blocks
-blocks_none r = refl
+blocks_none r [] e = refl
+blocks_none r (x ∷ D) e = absurd (omega arith)
 
 pub blocks_more : (r : ℕ) (D : List ℕ) → 0 < r → 0 < length D → blocks r D ≡ take r D ∷ blocks r (drop r D)
 unfolding blocks
@@ -34,20 +35,6 @@ absorbed_none P r S (x ∷ D) h = absurd (omega arith)
 pub absorbed_more : (P : List ℕ → List ℕ) (r : ℕ) (S D : List ℕ) → 0 < r → 0 < length D → absorbed P r S D ≡ absorbed P r (xored (P S) (padded r (take r D))) (drop r D)
 unfolding absorbed
 absorbed_more P r S D p h = ap (absorbed_blocks P r S) (blocks_more r D p h)
-
-pub take_min : (r : ℕ) (D : List ℕ) → take (min r (length D)) D ≡ take r D
-take_min zero D = ap (λ n. take n D) (let e : min zero (length D) ≡ zero = omega arith in e)
-take_min (suc r) [] = ap (λ (n : ℕ). take {A = ℕ} n []) (let e : min (suc r) zero ≡ zero = omega arith in e)
-take_min (suc r) (x ∷ D) =
-    let e : min (suc r) (suc (length D)) ≡ suc (min r (length D)) = omega arith in
-    ap (λ n. take n (x ∷ D)) e ∙ ap (λ l. x ∷ l) (take_min r D)
-
-pub drop_min : (r : ℕ) (D : List ℕ) → drop (min r (length D)) D ≡ drop r D
-drop_min zero D = ap (λ n. drop n D) (let e : min zero (length D) ≡ zero = omega arith in e)
-drop_min (suc r) [] = ap (λ (n : ℕ). drop {A = ℕ} n []) (let e : min (suc r) zero ≡ zero = omega arith in e)
-drop_min (suc r) (x ∷ D) =
-    let e : min (suc r) (suc (length D)) ≡ suc (min r (length D)) = omega arith in
-    ap (λ n. drop n (x ∷ D)) e ∙ drop_min r D
 
 -- the constant after a text is one of the two
 pub ending_below : (r : ℕ) (D : List ℕ) (whole cut c n : ℕ) → c ≡ ending r D whole cut → whole < n → cut < n → c < n

@@ -1,20 +1,48 @@
 -- The outcome of a call, case by case. Assumes nothing.
-use Rattle.std.proofs.Common.{◌≡◌, ℕ, ◌+◌, ◌-◌, ◌<◌, ◌≤◌, true, false, ◌||◌, ◌⊎◌, List, [], ◌++◌, length, take, drop, replicate, Some, None, Ok, Err, Option, sym, ap, ◌∙◌, ⊎_elim, append_assoc, append-nil, arith, length-append, length-drop, drop-drop, take_at, drop_at}
+use Rattle.std.proofs.Common.{◌≡◌, ℕ, ◌+◌, ◌-◌, ◌<◌, ◌≤◌, max, Bool, true, false, cond, ltb, ◌||◌, List, [], ◌++◌, length, take, drop, replicate, Some, None, Ok, Err, Option, Result, sym, refl, ap, ◌∙◌, append_assoc, append-nil, arith, length-append, length-drop, drop-drop, take_at, drop_at}
 use borrow.Rule.Slice.PartMut.{put_mid}
 use Rattle.std.specs.Str.{bytes_eq}
+use Rattle.std.specs.Result.{is_err}
+use Rattle.std.proofs.lemmas.Grind.{common_steps}
 use Rattle.std.proofs.lemmas.List.{drop_all}
-use Rattle.std.proofs.lemmas.Bool.{lt-ltb, le-ltb, cond-true, cond-false, or_left, or_right, or_from}
+use Rattle.std.proofs.lemmas.Bool.{lt-ltb, le-ltb, cond-true, cond-false}
+use Rattle.refusal.specs.declared.Refusal.{Refusal}
 use Rattle.refusal.specs.declared.Refusal.TheVariants.{TextTooLong, OutputTooShort}
-use Rattle.beetle.specs.Outcomes.{outcome, is_too_long}
+use Rattle.beetle.specs.Outcomes.{Outcome, outcome, is_too_long, sizes_answer}
+use Rattle.beetle.specs.Hashing.{digest, hash_outcome}
 use Rattle.beetle.specs.Sealing.{sealed, seal_outcome}
 use Rattle.beetle.specs.Opening.{message_length, ciphertext, tag_in, opening, tag_of, opened, handed_out, open_outcome}
 
--- one of two texts is too long, or neither
-too_long : (m n : ℕ) → (65536 < m) ⊎ ((m ≤ 65536) × (65536 < n)) → (is_too_long m || is_too_long n) ≡ true
-too_long m n = ⊎_elim (λ h. or_left _ _ (lt-ltb 65536 m h)) (λ h. or_right _ _ (lt-ltb 65536 n h.1))
+-- the longest of two texts is too long exactly where one of them is
+too_long_max : (m n : ℕ) → is_too_long (max m n) ≡ (is_too_long m || is_too_long n)
+too_long_max m n = grind (arith, common_steps)
 
-not_long : (m n : ℕ) → m ≤ 65536 → n ≤ 65536 → (is_too_long m || is_too_long n) ≡ false
-not_long m n h k = or_from _ _ (le-ltb 65536 m h) (le-ltb 65536 n k)
+-- what a call leaves, where it refuses by the sizes and where it does not
+module _ (B : List ℕ) (o : Outcome) where
+  abbrev judged : Bool → Bool → Outcome
+  judged long short = cond long (outcome (Err TextTooLong) B) (cond short (outcome (Err OutputTooShort) B) o)
+
+  abbrev answer : Bool → Bool → Result (Unit {0}) Refusal
+  answer long short = cond long (Err TextTooLong) (cond short (Err OutputTooShort) (Ok tt))
+
+  refused : (long short : Bool) (e : Refusal) → answer long short ≡ Err e → judged long short ≡ outcome (Err e) B
+  refused true short e h = ap (λ r. outcome r B) h
+  refused false true e h = ap (λ r. outcome r B) h
+  refused false false e h = cc
+
+  granted : (long short : Bool) → answer long short ≡ Ok tt → judged long short ≡ o
+  granted true short h = cc
+  granted false true h = cc
+  granted false false h = refl
+
+module _ (P : List ℕ → List ℕ) (M B : List ℕ) where
+  pub hash_refused : (e : Refusal) → sizes_answer (length M) 32 (length B) ≡ Err e → hash_outcome P M B ≡ outcome (Err e) B
+  unfolding hash_outcome
+  hash_refused e h = refused B _ (is_too_long (length M)) (ltb (length B) 32) e h
+
+  pub hash_granted : sizes_answer (length M) 32 (length B) ≡ Ok tt → hash_outcome P M B ≡ outcome (Ok tt) (digest P M ++ drop 32 B)
+  unfolding hash_outcome
+  hash_granted h = granted B _ (is_too_long (length M)) (ltb (length B) 32) h
 
 -- n bytes C stand at the front of a buffer that held B; then 16 bytes T after them
 pub tag_after : (C B X T : List ℕ) (n k : ℕ) → X ≡ C ++ drop n B → length X ≡ length B → n ≤ length B → k ≡ 16 → put_mid n k X T ≡ (C ++ T) ++ drop (n + 16) B
@@ -37,18 +65,42 @@ zeros_after M B X Z n k j e long fits z all same =
     ∙ (λ i. take_at M (drop n B) n size i ++ append-nil (replicate j 0) i)
     ∙ ap (λ m. M ++ replicate m 0) (let at : j ≡ length B - length M = omega arith in at)
 
+zeros_in : (long short : Bool) (n : ℕ) (o : Option (List ℕ)) → is_err (judged (replicate n 0) (handed_out n o) long short).answer ≡ true → (judged (replicate n 0) (handed_out n o) long short).buffer ≡ replicate n 0
+zeros_in true short n o h = refl
+zeros_in false true n o h = refl
+zeros_in false false n None h = refl
+zeros_in false false n (Some M) h = cc
+
 module _ (P : List ℕ → List ℕ) (r : ℕ) (K N A : List ℕ) where
-  pub seal_long : (M B : List ℕ) → (65536 < length A) ⊎ ((length A ≤ 65536) × (65536 < length M)) → seal_outcome P r K N A M B ≡ outcome (Err TextTooLong) B
+  -- longest and wanted are the sizes that the code compares
+  pub seal_refused : (M B : List ℕ) (longest : ℕ) (e : Refusal) → longest ≡ max (length A) (length M) → sizes_answer longest (length M + 16) (length B) ≡ Err e → seal_outcome P r K N A M B ≡ outcome (Err e) B
   unfolding seal_outcome
-  seal_long M B h = cond-true _ _ _ (too_long (length A) (length M) h)
+  seal_refused M B longest e l h =
+      refused B _ (is_too_long (length A) || is_too_long (length M)) (ltb (length B) (length M + 16)) e
+      (ap (λ b. answer B (outcome (Ok tt) B) b (ltb (length B) (length M + 16))) (sym (ap is_too_long l ∙ too_long_max (length A) (length M))) ∙ h)
 
-  pub seal_short : (M B : List ℕ) → length A ≤ 65536 → length M ≤ 65536 → length B < length M + 16 → seal_outcome P r K N A M B ≡ outcome (Err OutputTooShort) B
+  pub seal_granted : (M B : List ℕ) (longest : ℕ) → longest ≡ max (length A) (length M) → sizes_answer longest (length M + 16) (length B) ≡ Ok tt → seal_outcome P r K N A M B ≡ outcome (Ok tt) (sealed P r K N A M ++ drop (length M + 16) B)
   unfolding seal_outcome
-  seal_short M B h k s = cond-false _ _ _ (not_long (length A) (length M) h k) ∙ cond-true _ _ _ (lt-ltb (length B) (length M + 16) s)
+  seal_granted M B longest l h =
+      granted B _ (is_too_long (length A) || is_too_long (length M)) (ltb (length B) (length M + 16))
+      (ap (λ b. answer B (outcome (Ok tt) B) b (ltb (length B) (length M + 16))) (sym (ap is_too_long l ∙ too_long_max (length A) (length M))) ∙ h)
 
-  pub seal_granted : (M B : List ℕ) → length A ≤ 65536 → length M ≤ 65536 → length M + 16 ≤ length B → seal_outcome P r K N A M B ≡ outcome (Ok tt) (sealed P r K N A M ++ drop (length M + 16) B)
-  unfolding seal_outcome
-  seal_granted M B h k s = cond-false _ _ _ (not_long (length A) (length M) h k) ∙ cond-false _ _ _ (le-ltb (length B) (length M + 16) s)
+  -- wanted is the length of the message
+  long_if : (C : List ℕ) (longest wanted : ℕ) → longest ≡ max (length A) wanted → wanted ≡ message_length C → is_too_long longest ≡ (is_too_long (length A) || is_too_long (message_length C))
+  long_if C longest wanted l w = ap is_too_long l ∙ too_long_max (length A) wanted ∙ ap (λ n. is_too_long (length A) || is_too_long n) w
+
+  pub open_refused : (C B : List ℕ) (longest wanted : ℕ) (e : Refusal) → longest ≡ max (length A) wanted → wanted ≡ message_length C → sizes_answer longest wanted (length B) ≡ Err e → open_outcome P r K N A C B ≡ outcome (Err e) (replicate (length B) 0)
+  unfolding open_outcome
+  open_refused C B longest wanted e l w h =
+      refused (replicate (length B) 0) _ (is_too_long (length A) || is_too_long (message_length C)) (ltb (length B) (message_length C)) e
+      (sym (λ i. answer B (outcome (Ok tt) B) (long_if C longest wanted l w i) (ltb (length B) (w i))) ∙ h)
+
+  pub open_judged : (C B : List ℕ) (o : Option (List ℕ)) (longest wanted : ℕ) → longest ≡ max (length A) wanted → wanted ≡ message_length C → sizes_answer longest wanted (length B) ≡ Ok tt → opened P r K N A C ≡ o → open_outcome P r K N A C B ≡ handed_out (length B) o
+  unfolding open_outcome
+  open_judged C B o longest wanted l w h e =
+      granted (replicate (length B) 0) _ (is_too_long (length A) || is_too_long (message_length C)) (ltb (length B) (message_length C))
+      (sym (λ i. answer B (outcome (Ok tt) B) (long_if C longest wanted l w i) (ltb (length B) (w i))) ∙ h)
+      ∙ ap (handed_out (length B)) e
 
   pub opened_cut : (C : List ℕ) → length C < 16 → opened P r K N A C ≡ None
   unfolding opened
@@ -62,17 +114,7 @@ module _ (P : List ℕ → List ℕ) (r : ℕ) (K N A : List ℕ) where
   unfolding opened
   opened_differs C h e = cond-false _ _ _ (le-ltb (length C) 16 h) ∙ cond-false _ _ _ e
 
-  pub open_long : (C B : List ℕ) → (65536 < length A) ⊎ ((length A ≤ 65536) × (65536 < message_length C)) → open_outcome P r K N A C B ≡ outcome (Err TextTooLong) (replicate (length B) 0)
+  -- what is refused leaves zeros
+  pub zeros_if_refused : (C B : List ℕ) → is_err (open_outcome P r K N A C B).answer ≡ true → (open_outcome P r K N A C B).buffer ≡ replicate (length B) 0
   unfolding open_outcome
-  open_long C B h = cond-true _ _ _ (too_long (length A) (message_length C) h)
-
-  pub open_short : (C B : List ℕ) → length A ≤ 65536 → message_length C ≤ 65536 → length B < message_length C → open_outcome P r K N A C B ≡ outcome (Err OutputTooShort) (replicate (length B) 0)
-  unfolding open_outcome
-  open_short C B h k s = cond-false _ _ _ (not_long (length A) (message_length C) h k) ∙ cond-true _ _ _ (lt-ltb (length B) (message_length C) s)
-
-  pub open_judged : (C B : List ℕ) (o : Option (List ℕ)) → length A ≤ 65536 → message_length C ≤ 65536 → message_length C ≤ length B → opened P r K N A C ≡ o → open_outcome P r K N A C B ≡ handed_out (length B) o
-  unfolding open_outcome
-  open_judged C B o h k s e =
-      cond-false _ _ _ (not_long (length A) (message_length C) h k)
-      ∙ cond-false _ _ _ (le-ltb (length B) (message_length C) s)
-      ∙ ap (handed_out (length B)) e
+  zeros_if_refused C B h = zeros_in (is_too_long (length A) || is_too_long (message_length C)) (ltb (length B) (message_length C)) (length B) (opened P r K N A C) h

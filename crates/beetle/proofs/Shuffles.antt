@@ -1,56 +1,36 @@
 -- The shuffled state, byte by byte. Assumes nothing.
-use Rattle.std.proofs.Common.{◌≡◌, ℕ, zero, suc, ◌+◌, ◌-◌, ◌*◌, ◌/◌, ◌%◌, ◌<◌, ◌≤◌, List, [], ◌∷◌, ◌++◌, length, get_or, take, drop, set, sym, refl, ap, ◌∙◌, ⊎_elim, arith, length-append, length-drop, length-set, length-take-le, get_or-drop, get_or-set_other, get_or-take, get_or-set_same, take-take, ext_get_or, below_more}
-use lib.Bits.{bit_xor}
-use Rattle.std.proofs.lemmas.List.FromFn.{get_or-map-range_with_len, length-map-range_with_len}
-use Rattle.std.proofs.lemmas.List.{get_or_append_left, get_or-append_right}
+use Rattle.std.proofs.Common.{◌≡◌, ℕ, ◌+◌, ◌-◌, ◌*◌, ◌/◌, ◌%◌, ◌<◌, ◌≤◌, List, [], ◌∷◌, ◌++◌, map, length, get_or, take, drop, replicate, sym, refl, ap, ◌∙◌, ⊎_elim, arith, length-append, length-drop, length-take-le, get_or-drop, get_or-take, take-take}
+use lib.Bits.{xor_comm}
+use lib.ListN.{length-replicate}
+use Rattle.std.specs.List.{range_with_len}
+use Rattle.std.proofs.lemmas.List.FromFn.{get_or-map-range_with_len, length-map-range_with_len, fill_by_all}
+use Rattle.std.proofs.lemmas.List.{get_or_append_left, get_or-append_right, get_or_past, get_or-replicate, take-append-le}
 use Rattle.std.proofs.lemmas.Bool.{cases_lt}
 use Rattle.std.proofs.lemmas.Nat.{mod_below}
 use Rattle.beetle.specs.Blocks.{xored}
+use Rattle.beetle.specs.Rates.{Lawful}
 use Rattle.beetle.specs.Mode.{rotated, shuffled, masked}
-use Rattle.beetle.proofs.Xors.{length_xored}
 
 -- byte k of the first h bytes of S turned right by one bit
 abbrev pub turned : ℕ → List ℕ → ℕ → ℕ
 turned h S k = get_or S k 0 / 2 + 128 * (get_or S ((k + 1) % h) 0 % 2)
 
-pub length_rotated : (H : List ℕ) → length (rotated H) ≡ length H
+length_rotated : (H : List ℕ) → length (rotated H) ≡ length H
 unfolding rotated
 length_rotated H = length-map-range_with_len _ 0 (length H)
 
-pub get_or_rotated : (H : List ℕ) (k : ℕ) → k < length H → get_or (rotated H) k 0 ≡ turned (length H) H k
+get_or_rotated : (H : List ℕ) (k : ℕ) → k < length H → get_or (rotated H) k 0 ≡ turned (length H) H k
 unfolding rotated
 get_or_rotated H k h = get_or-map-range_with_len _ 0 (length H) k k 0 h (omega arith)
 
--- one turn of the loop that writes both halves, the low one by f and the high one by f'
-module _ (f f' : ℕ → ℕ) (K : List ℕ) (h i : ℕ) (inside : i < h) (fits : h + h ≤ length K) where
-  abbrev after : List ℕ
-  after = set (set K i (f i)) (h + i) (f' i)
+-- h is half the rate, and the state is long enough
+module _ (r h : ℕ) (S : List ℕ) (law : Lawful r) (half : h ≡ r / 2) (long_enough : 16 ≤ length S) where
+  even : h + h ≡ r
+  even = let e = law.even in omega arith
 
-  pub low_more : ((k : ℕ) → k < i → get_or K k 0 ≡ f k) → (k : ℕ) → k < i + 1 → get_or after k 0 ≡ f k
-  low_more was =
-      below_more _ _
-      (λ k l. get_or-set_other (set K i (f i)) (h + i) k (f' i) 0 (omega arith) ∙ get_or-set_other K i k (f i) 0 (omega arith) ∙ was k l)
-      (get_or-set_other (set K i (f i)) (h + i) i (f' i) 0 (omega arith) ∙ get_or-set_same K i (f i) 0 (omega arith))
+  within : r ≤ length S
+  within = let most = law.most in omega arith
 
-  pub high_more : ((k : ℕ) → k < i → get_or K (h + k) 0 ≡ f' k) → (k : ℕ) → k < i + 1 → get_or after (h + k) 0 ≡ f' k
-  high_more was =
-      below_more _ _
-      (λ k l. get_or-set_other (set K i (f i)) (h + i) (h + k) (f' i) 0 (omega arith) ∙ get_or-set_other K i (h + k) (f i) 0 (omega arith) ∙ was k l)
-      (get_or-set_same (set K i (f i)) (h + i) (f' i) 0 (let e = length-set K i (f i) in omega arith))
-
--- two halves of h bytes, one after the other
-pub halves_by : (X Y K : List ℕ) (h : ℕ) → length X ≡ h → length Y ≡ h → length K ≡ h + h → ((k : ℕ) → k < h → get_or K k 0 ≡ get_or X k 0) → ((k : ℕ) → k < h → get_or K (h + k) 0 ≡ get_or Y k 0) → K ≡ X ++ Y
-halves_by X Y K h x y n low high =
-    let m = length-append X Y in
-    ext_get_or 0 K (X ++ Y) (omega arith)
-    (λ i l. ⊎_elim
-    (λ a. low i a ∙ sym (get_or_append_left X Y 0 i (omega arith)))
-    (λ b. let at : h + (i - h) ≡ i = omega arith in
-    ap (λ j. get_or K j 0) (sym at) ∙ high (i - h) (omega arith) ∙ sym (get_or-append_right X Y h i 0 x b))
-    (cases_lt i h))
-
--- r is even and the state is long enough
-module _ (r h : ℕ) (S : List ℕ) (half : r / 2 ≡ h) (even : h + h ≡ r) (within : r ≤ length S) where
   front : take h (take r S) ≡ take h S
   front = take-take h r S (omega arith)
 
@@ -59,7 +39,7 @@ module _ (r h : ℕ) (S : List ℕ) (half : r / 2 ≡ h) (even : h + h ≡ r) (w
 
   parts : shuffled r (take r S) ≡ drop h (take r S) ++ rotated (take h S)
   unfolding shuffled
-  parts = (λ i. drop (half i) (take r S) ++ rotated (take (half i) (take r S))) ∙ ap (λ l. drop h (take r S) ++ rotated l) front
+  parts = (λ i. drop (sym half i) (take r S) ++ rotated (take (sym half i) (take r S))) ∙ ap (λ l. drop h (take r S) ++ rotated l) front
 
   back : length (drop h (take r S)) ≡ h
   back = length-drop h (take r S) ∙ (let e = length-take-le r S within in omega arith)
@@ -87,30 +67,26 @@ module _ (r h : ℕ) (S : List ℕ) (half : r / 2 ≡ h) (even : h + h ≡ r) (w
       ∙ ap (λ n. turned n (take h S) k) long
       ∙ turned_take k l
 
-  -- a list of r bytes and more that has both halves
-  pub shuffled_by : (K : List ℕ) → r ≤ length K → ((k : ℕ) → k < h → get_or K k 0 ≡ get_or S (h + k) 0) → ((k : ℕ) → k < h → get_or K (h + k) 0 ≡ turned h S k) → take r K ≡ shuffled r (take r S)
-  shuffled_by K fits low high =
-      let n = length-take-le r K fits in
-      ext_get_or 0 (take r K) (shuffled r (take r S)) (n ∙ sym length_shuffled)
-      (λ i l. get_or-take r K i 0 (omega arith) ∙ ⊎_elim
-      (λ a. low i a ∙ sym (shuffled_low i a))
-      (λ b. let at : h + (i - h) ≡ i = omega arith in
-      ap (λ j. get_or K j 0) (sym at) ∙ high (i - h) (omega arith) ∙ sym (shuffled_high (i - h) (omega arith)) ∙ ap (λ j. get_or (shuffled r (take r S)) j 0) at)
-      (cases_lt i h))
+-- the bytes of xs, and then 0 for each read past them
+pub zeros_past : (xs : List ℕ) (n k : ℕ) → length xs + k ≡ n → map (λ i. get_or xs i 0) (range_with_len 0 n) ≡ xs ++ replicate k 0
+zeros_past xs n k split =
+    let z = length-replicate {A = ℕ} k 0 in
+    sym (fill_by_all (λ i. get_or xs i 0) (xs ++ replicate k 0) n 0 (length-append xs (replicate k 0) ∙ omega arith)
+    (λ i l. ⊎_elim
+    (λ inside. get_or_append_left xs (replicate k 0) 0 i inside)
+    (λ past. get_or-append_right xs (replicate k 0) (length xs) i 0 refl past ∙ get_or-replicate k (i - length xs) 0 0 (omega arith) ∙ sym (get_or_past xs i 0 past))
+    (cases_lt i (length xs))))
 
--- XOR byte by byte
-pub get_or_xored : (xs ys : List ℕ) (k : ℕ) → k < length xs → k < length ys → get_or (xored xs ys) k 0 ≡ bit_xor (get_or xs k 0) (get_or ys k 0)
-get_or_xored [] ys k h l = absurd (omega arith)
-get_or_xored (x ∷ xs) [] k h l = absurd (omega arith)
-get_or_xored (x ∷ xs) (y ∷ ys) zero h l = refl
-get_or_xored (x ∷ xs) (y ∷ ys) (suc k) h l = get_or_xored xs ys k (omega arith) (omega arith)
+-- XOR in the other order
+xored_comm : (xs ys : List ℕ) → length xs ≡ length ys → xored xs ys ≡ xored ys xs
+xored_comm [] [] e = refl
+xored_comm [] (y ∷ ys) e = absurd (omega arith)
+xored_comm (x ∷ xs) [] e = absurd (omega arith)
+xored_comm (x ∷ xs) (y ∷ ys) e = (λ i. xor_comm x y i ∷ xored_comm xs ys (omega arith) i)
 
--- a block that is masked byte by byte with a key whose first r bytes are the shuffled state
-pub masked_by : (r : ℕ) (S U K V : List ℕ) → take r K ≡ shuffled r (take r S) → length U ≤ r → r ≤ length K → length V ≡ length U → ((k : ℕ) → k < length U → get_or V k 0 ≡ bit_xor (get_or K k 0) (get_or U k 0)) → V ≡ masked r S U
+-- a block XOR the front of the shuffled state, after which Z stands
+pub masked_by : (r : ℕ) (S U Z : List ℕ) → length U ≤ length (shuffled r (take r S)) → xored U (take (length U) (shuffled r (take r S) ++ Z)) ≡ masked r S U
 unfolding masked
-masked_by r S U K V key fits long same each =
-    let mask : take (length U) (shuffled r (take r S)) ≡ take (length U) K = ap (take (length U)) (sym key) ∙ take-take (length U) r K fits in
-    let n = length-take-le (length U) K (omega arith) in
-    ext_get_or 0 V (xored (take (length U) K) U) (same ∙ sym (length_xored (take (length U) K) U ∙ n))
-    (λ k l. each k (omega arith) ∙ sym (get_or_xored (take (length U) K) U k (omega arith) (omega arith) ∙ ap (λ b. bit_xor b (get_or U k 0)) (get_or-take (length U) K k 0 (omega arith))))
-    ∙ ap (λ m. xored m U) (sym mask)
+masked_by r S U Z fits =
+    let front = take-append-le (length U) (shuffled r (take r S)) Z fits in
+    ap (xored U) front ∙ xored_comm U (take (length U) (shuffled r (take r S))) (sym (length-take-le (length U) (shuffled r (take r S)) fits))

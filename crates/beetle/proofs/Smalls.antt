@@ -1,7 +1,9 @@
 -- Bytes stay bytes. Assumes nothing.
-use Rattle.std.proofs.Common.{ℕ, zero, suc, ◌+◌, ◌-◌, ◌*◌, ◌/◌, ◌<◌, ◌≤◌, List, [], ◌∷◌, ◌++◌, length, get_or, take, drop, set, replicate, sym, refl, ◌∙◌, subst, ⊎_elim, arith, length-append, length-drop, length-set, get_or-drop}
+use Rattle.std.proofs.Common.{ℕ, zero, suc, ◌-◌, ◌*◌, ◌/◌, ◌<◌, ◌≤◌, List, [], ◌∷◌, ◌++◌, length, get_or, take, drop, replicate, sym, refl, ◌∙◌, subst, ⊎_elim, arith, length-append, length-drop, length-set}
 use lib.Bits.{xor_lt}
+use Rattle.std.specs.List.{All, range_with_len, slice_index_or}
 use Rattle.std.proofs.lemmas.List.{get_or_past}
+use Rattle.std.proofs.lemmas.List.Elements.{All-get_or, All-from_get_or, All-append, All-cons, All-replicate, All-take, All-drop, All-set, All-map}
 use Rattle.std.proofs.lemmas.Bool.{cases_lt, cond_both}
 use Rattle.photon.specs.Bytes.{Bytes}
 use Rattle.beetle.specs.Blocks.{xored, padded, added, ending, absorbed}
@@ -9,52 +11,45 @@ use Rattle.beetle.specs.Mode.{rotated, shuffled, masked, c0, c1, begun, ended, e
 use Rattle.beetle.specs.Laws.{Small, Stays}
 use Rattle.beetle.proofs.Xors.{length_xored}
 use Rattle.beetle.proofs.Cuts.{absorbed_none, absorbed_more, ending_below}
-use Rattle.beetle.proofs.Shuffles.{length_rotated, get_or_rotated}
+
+abbrev byte : ℕ → Type 0
+byte b = b < 256
+
+-- between the two words for it: what is read past the end of a list is 0, a byte
+all_bytes : (xs : List ℕ) → Small xs → All byte xs
+all_bytes xs h = All-from_get_or byte xs 0 (λ i l. h i)
+
+small : (xs : List ℕ) → All byte xs → Small xs
+small xs h i =
+    ⊎_elim (λ l. All-get_or byte xs i 0 l h) (λ g. subst byte (sym (get_or_past xs i 0 g)) (omega arith)) (cases_lt i (length xs))
 
 pub small_nil : Small []
 small_nil i = omega arith
 
-pub small_cons : (x : ℕ) (xs : List ℕ) → x < 256 → Small xs → Small (x ∷ xs)
-small_cons x xs h k zero = h
-small_cons x xs h k (suc i) = k i
-
-pub small_xored : (xs ys : List ℕ) → Small xs → Small ys → Small (xored xs ys)
+small_xored : (xs ys : List ℕ) → Small xs → Small ys → Small (xored xs ys)
 small_xored [] ys h k i = omega arith
 small_xored (x ∷ xs) [] h k i = h i
 small_xored (x ∷ xs) (y ∷ ys) h k zero = xor_lt 8 x y (h 0) (k 0)
 small_xored (x ∷ xs) (y ∷ ys) h k (suc i) = small_xored xs ys (λ j. h (suc j)) (λ j. k (suc j)) i
 
 pub small_append : (xs ys : List ℕ) → Small xs → Small ys → Small (xs ++ ys)
-small_append [] ys h k i = k i
-small_append (x ∷ xs) ys h k zero = h 0
-small_append (x ∷ xs) ys h k (suc i) = small_append xs ys (λ j. h (suc j)) k i
+small_append xs ys h k = small (xs ++ ys) (All-append byte xs ys (all_bytes xs h) (all_bytes ys k))
 
 pub small_zeros : (n : ℕ) → Small (replicate n 0)
-small_zeros zero i = omega arith
-small_zeros (suc n) zero = omega arith
-small_zeros (suc n) (suc i) = small_zeros n i
+small_zeros n = small (replicate n 0) (All-replicate byte n 0 (omega arith))
 
 pub small_take : (n : ℕ) (xs : List ℕ) → Small xs → Small (take n xs)
-small_take zero xs h i = omega arith
-small_take (suc n) [] h i = omega arith
-small_take (suc n) (x ∷ xs) h zero = h 0
-small_take (suc n) (x ∷ xs) h (suc i) = small_take n xs (λ j. h (suc j)) i
+small_take n xs h = small (take n xs) (All-take byte n xs (all_bytes xs h))
 
 pub small_drop : (n : ℕ) (xs : List ℕ) → Small xs → Small (drop n xs)
-small_drop n xs h i = subst (λ b. b < 256) (sym (get_or-drop n xs i 0)) (h (n + i))
-
-small_set : (xs : List ℕ) (k b : ℕ) → b < 256 → Small xs → Small (set xs k b)
-small_set [] k b s h i = omega arith
-small_set (x ∷ xs) zero b s h zero = s
-small_set (x ∷ xs) zero b s h (suc i) = h (suc i)
-small_set (x ∷ xs) (suc k) b s h zero = h 0
-small_set (x ∷ xs) (suc k) b s h (suc i) = small_set xs k b s (λ j. h (suc j)) i
+small_drop n xs h = small (drop n xs) (All-drop byte n xs (all_bytes xs h))
 
 pub small_padded : (n : ℕ) (D : List ℕ) → Small D → Small (padded n D)
 unfolding padded
 small_padded n D h =
     cond_both _ (D ++ 1 ∷ replicate (n - length D - 1) 0) D Small
-    (λ _. small_append D _ h (small_cons 1 _ (omega arith) (small_zeros (n - length D - 1))))
+    (λ _. let Z = replicate (n - length D - 1) 0 in
+    small (D ++ 1 ∷ Z) (All-append byte D (1 ∷ Z) (all_bytes D h) (All-cons byte 1 Z (omega arith) (All-replicate byte (n - length D - 1) 0 (omega arith)))))
     (λ _. h)
 
 -- the state takes a padded block or a constant
@@ -65,7 +60,7 @@ pub bytes_added : (c : ℕ) (S : List ℕ) → c < 8 → Bytes 32 S → Bytes 32
 unfolding added
 bytes_added c S s h = record {
   long = length-set S 31 _ ∙ h.long;
-  small = small_set S 31 _ (xor_lt 8 (get_or S 31 0) (32 * c) (h.small 31) (omega arith)) h.small;
+  small = small (added c S) (All-set byte S 31 _ (xor_lt 8 (get_or S 31 0) (32 * c) (h.small 31) (omega arith)) (all_bytes S h.small));
 }
 
 -- n bounds the length of the text
@@ -114,11 +109,9 @@ bytes_ended r A M S h = cond_both (empty M) _ _ (Bytes 32) (λ _. h) (λ _. byte
 
 -- the shuffled state
 small_rotated : (H : List ℕ) → Small H → Small (rotated H)
-small_rotated H h i =
-    ⊎_elim
-    (λ l. subst (λ b. b < 256) (sym (get_or_rotated H i l)) (let x = h i in omega arith))
-    (λ g. subst (λ b. b < 256) (sym (get_or_past (rotated H) i 0 (let e = length_rotated H in omega arith))) (omega arith))
-    (cases_lt i (length H))
+unfolding rotated
+small_rotated H h =
+    small (rotated H) (All-map byte _ (range_with_len 0 (length H)) (λ k d l. let b = h (slice_index_or (range_with_len 0 (length H)) k d) in omega arith))
 
 pub small_masked : (r : ℕ) (S U : List ℕ) → Small S → Small U → Small (masked r S U)
 unfolding masked shuffled

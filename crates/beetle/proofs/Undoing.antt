@@ -9,11 +9,12 @@ use Rattle.beetle.specs.Blocks.{xored, padded, blocks, added, ending, absorbed}
 use Rattle.beetle.specs.Mode.{Passed, shuffled, masked, rho, rho_back, passed, c0, c1, begun, ended, empty, tag}
 use Rattle.beetle.specs.Sealing.{sealing, sealed}
 use Rattle.beetle.specs.Opening.{message_length, ciphertext, tag_in, opening, tag_of}
-use Rattle.beetle.specs.Laws.{Stays, Lawful, Small, SealedOpens, OpenedWasSealed, OpensByItsTag, SealedLength, OpenedLength, Laws}
+use Rattle.beetle.specs.Rates.{Lawful}
+use Rattle.beetle.specs.Laws.{Stays, Small, SealedOpens, OpenedWasSealed, OpensByItsTag, SealedLength, OpenedLength, Laws}
 use Rattle.beetle.proofs.Xors.{length_xored}
 use Rattle.beetle.proofs.Differing.{xor_back}
 use Rattle.beetle.proofs.Shuffles.{length_shuffled}
-use Rattle.beetle.proofs.Passes.{through, through_none, through_more}
+use Rattle.beetle.proofs.Cuts.{blocks_none, blocks_more}
 use Rattle.beetle.proofs.Ends.{opened_cut, opened_same, opened_differs}
 use Rattle.beetle.proofs.Smalls.{small_nil, small_append, small_take, small_drop, small_padded, small_masked, bytes_xored, bytes_begun, bytes_ended}
 
@@ -23,16 +24,17 @@ xored_back [] (y ∷ ys) h = absurd (omega arith)
 xored_back (x ∷ xs) [] h = absurd (omega arith)
 xored_back (x ∷ xs) (y ∷ ys) h = (λ i. xor_back x y i ∷ xored_back xs ys (omega arith) i)
 
+abbrev through : ℕ → (List ℕ → List ℕ) → (List ℕ → List ℕ → Passed) → List ℕ → List ℕ → Passed
+through r P f S D = passed P f S (blocks r D)
+
 -- one block
 module _ (r : ℕ) (law : Lawful r) where
   module _ (T U : List ℕ) (t : Bytes 32 T) (u : length U ≤ r) where
     mask_long : length (take (length U) (shuffled r (take r T))) ≡ length U
     mask_long =
-        let even = law.even in
-        let most = law.most in
         let long = t.long in
         length-take-le (length U) (shuffled r (take r T))
-        (subst (λ n. length U ≤ n) (sym (length_shuffled r (r / 2) T refl (omega arith) (omega arith))) u)
+        (subst (λ n. length U ≤ n) (sym (length_shuffled r (r / 2) T law refl (omega arith))) u)
 
     length_masked : length (masked r T U) ≡ length U
     unfolding masked
@@ -74,15 +76,15 @@ module _ (r : ℕ) (law : Lawful r) where
       pub size : length p.text ≡ length M
       pub small : Small p.text
       pub state : Bytes 32 p.state
-      pub undo : through P f' r S p.text ≡ record { state = p.state; text = M }
+      pub undo : through r P f' S p.text ≡ record { state = p.state; text = M }
 
-    kept_none : (S M : List ℕ) → Bytes 32 S → length M ≡ 0 → Kept S M (through P f r S M)
+    kept_none : (S M : List ℕ) → Bytes 32 S → length M ≡ 0 → Kept S M (through r P f S M)
     kept_none S M s e =
-        subst (Kept S M) (sym (through_none P f r S M e)) (record {
+        subst (Kept S M) (sym (ap (passed P f S) (blocks_none r M e))) (record {
           size = sym e;
           small = small_nil;
           state = s;
-          undo = through_none P f' r S [] refl ∙ ap (λ (x : List ℕ). let p : Passed = record { state = S; text = x } in p) (sym (nil_from_length M e));
+          undo = ap (passed P f' S) (blocks_none r [] refl) ∙ ap (λ (x : List ℕ). let p : Passed = record { state = S; text = x } in p) (sym (nil_from_length M e));
         })
 
     -- a block V and the blocks C after it, as long as the first block of M and the rest
@@ -96,7 +98,7 @@ module _ (r : ℕ) (law : Lawful r) where
         (λ g. (take_at V C r (full g), drop_at V C r (full g)))
         (cases_lt m r)
 
-    kept_upto : (n : ℕ) (S M : List ℕ) → length M ≤ n → Bytes 32 S → Small M → Kept S M (through P f r S M)
+    kept_upto : (n : ℕ) (S M : List ℕ) → length M ≤ n → Bytes 32 S → Small M → Kept S M (through r P f S M)
     kept_upto zero S M l s m = kept_none S M s (omega arith)
     kept_upto (suc n) S [] l s m = kept_none S [] s refl
     kept_upto (suc n) S (x ∷ D) l s m =
@@ -111,23 +113,23 @@ module _ (r : ℕ) (law : Lawful r) where
         let v = back.size T U t u in
         let S' = (f T U).state in
         let rest = kept_upto n S' (drop r M) (omega (arith, length-drop r M)) (back.state T U t us) (small_drop r M m) in
-        let C = (through P f r S' (drop r M)).text in
+        let C = (through r P f S' (drop r M)).text in
         let size : length V + length C ≡ length M = omega (arith, rest.size, length-drop r M, length-take r M) in
         let parts = first_back V C (length M) (omega arith) size (λ g. omega (arith, length-take r M)) (λ g. omega (arith, rest.size, length-drop r M)) in
-        let again : through P f' r S (V ++ C) ≡ record { state = (through P f r S' (drop r M)).state; text = M } =
-        through_more P f' r S (V ++ C) (omega arith) (omega (arith, length-append V C))
+        let again : through r P f' S (V ++ C) ≡ record { state = (through r P f S' (drop r M)).state; text = M } =
+        ap (passed P f' S) (blocks_more r (V ++ C) (omega arith) (omega (arith, length-append V C)))
         ∙ (λ i. passed P f' S (parts.0 i ∷ blocks r (parts.1 i)))
-        ∙ ap (λ (p : Passed). let q : Passed = record { state = (through P f' r p.state C).state; text = p.text ++ (through P f' r p.state C).text } in q) (back.undo T U t u)
+        ∙ ap (λ (p : Passed). let q : Passed = record { state = (through r P f' p.state C).state; text = p.text ++ (through r P f' p.state C).text } in q) (back.undo T U t u)
         ∙ ap (λ (p : Passed). let q : Passed = record { state = p.state; text = U ++ p.text } in q) rest.undo
-        ∙ ap (λ (y : List ℕ). let q : Passed = record { state = (through P f r S' (drop r M)).state; text = y } in q) (take-append-drop r M) in
-        subst (Kept S M) (sym (through_more P f r S M (omega arith) (omega arith))) (record {
+        ∙ ap (λ (y : List ℕ). let q : Passed = record { state = (through r P f S' (drop r M)).state; text = y } in q) (take-append-drop r M) in
+        subst (Kept S M) (sym (ap (passed P f S) (blocks_more r M (omega arith) (omega arith)))) (record {
           size = length-append V C ∙ size;
           small = small_append V C (back.small T U t us) rest.small;
           state = rest.state;
           undo = again;
         })
 
-    kept : (S M : List ℕ) → Bytes 32 S → Small M → Kept S M (through P f r S M)
+    kept : (S M : List ℕ) → Bytes 32 S → Small M → Kept S M (through r P f S M)
     kept S M s m = kept_upto (length M) S M (omega arith) s m
 
 -- the constants and the start of the state depend on a message's length alone
@@ -161,7 +163,7 @@ sealed_opens P r K N A M st law k n a m =
     let least = law.least in
     let S₀ = begun P r K N A M in
     let s₀ : Bytes 32 S₀ = bytes_begun P r K N A M st (omega arith) k n a in
-    let p = through P (rho r) r S₀ M in
+    let p = through r P (rho r) S₀ M in
     let done = kept r law P st (rho r) (rho_back r) (back_undoes r law) S₀ M s₀ m in
     let V = p.text in
     let T = tag P (ended r A M p.state) in
@@ -169,7 +171,7 @@ sealed_opens P r K N A M st law k n a m =
     let t : length T ≡ 16 = length-take-le 16 (P (ended r A M p.state)) (omega arith) in
     let C = sealed P r K N A M in
     let same : begun P r K N A V ≡ S₀ = begun_length P r K N A V M done.size in
-    let again : opening P r K N A V ≡ record { state = p.state; text = M } = ap (λ s. through P (rho_back r) r s V) same ∙ done.undo in
+    let again : opening P r K N A V ≡ record { state = p.state; text = M } = ap (λ s. through r P (rho_back r) s V) same ∙ done.undo in
     let at = ciphertext_is V T C refl t in
     let whole : opening P r K N A (ciphertext C) ≡ record { state = p.state; text = M } = ap (opening P r K N A) at ∙ again in
     let specified : tag_of P r K N A (ciphertext C) ≡ T =
@@ -203,7 +205,7 @@ opened_was_sealed P r K N A C M st law k n a c o =
     let done = kept r law P st (rho_back r) (rho r) (forth_undoes r law) S₀ V s₀ (small_take (message_length C) C c) in
     let size : length M ≡ length V = ap length (sym told.2) ∙ done.size in
     let again : sealing P r K N A M ≡ record { state = p.state; text = V } =
-    (λ i. through P (rho r) r (begun_length P r K N A M V size i) (sym told.2 i)) ∙ done.undo in
+    (λ i. through r P (rho r) (begun_length P r K N A M V size i) (sym told.2 i)) ∙ done.undo in
     let made : tag P (ended r A M (sealing P r K N A M).state) ≡ tag_of P r K N A V =
     ap (λ (q : Passed). tag P (ended r A M q.state)) again ∙ ap (tag P) (ended_length r A M V p.state size) in
     sym (take-append-drop (message_length C) C)
@@ -216,7 +218,7 @@ sealed_length P r K N A M st law k n a m =
     let least = law.least in
     let S₀ = begun P r K N A M in
     let s₀ : Bytes 32 S₀ = bytes_begun P r K N A M st (omega arith) k n a in
-    let p = through P (rho r) r S₀ M in
+    let p = through r P (rho r) S₀ M in
     let done = kept r law P st (rho r) (rho_back r) (back_undoes r law) S₀ M s₀ m in
     let last = (st (ended r A M p.state) (bytes_ended r A M p.state done.state)).long in
     let t : length (take 16 (P (ended r A M p.state))) ≡ 16 = length-take-le 16 (P (ended r A M p.state)) (omega arith) in

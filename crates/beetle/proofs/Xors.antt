@@ -1,5 +1,7 @@
 -- XOR over lists, and what a padded block does to a list. Assumes nothing.
-use Rattle.std.proofs.Common.{◌≡◌, ℕ, zero, suc, ◌+◌, ◌-◌, ◌<◌, ◌≤◌, List, [], ◌∷◌, ◌++◌, length, get_or, take, set, replicate, sym, refl, ap, ◌∙◌, ⊎_elim, add-one, arith, length-append}
+use Rattle.std.proofs.Common.{◌≡◌, ℕ, zero, suc, ◌+◌, ◌-◌, ◌<◌, ◌≤◌, List, [], ◌∷◌, ◌++◌, length, get_or, take, drop, set, replicate, sym, refl, ap, ◌∙◌, ⊎_elim, add-one, append-nil, take_at, drop_at, arith, length-append}
+use borrow.Rule.Slice.PartMut.{put_mid}
+use Rattle.std.proofs.lemmas.List.{drop_all}
 use lib.Bits.{bit_xor, xor_zero_l, xor_zero_r}
 use lib.ListN.{length-replicate}
 use Rattle.std.proofs.lemmas.Bool.{lt-ltb, le-ltb, cond-true, cond-false, cases_lt}
@@ -24,7 +26,7 @@ xored_suc (x ∷ xs) (y ∷ ys) (suc i) h k = ap (λ l. bit_xor x y ∷ l) (xore
 pub xored_more : (xs ys : List ℕ) (i : ℕ) → i < length xs → i < length ys → set (xored xs (take i ys)) i (bit_xor (get_or (xored xs (take i ys)) i 0) (get_or ys i 0)) ≡ xored xs (take (i + 1) ys)
 xored_more xs ys i h k = xored_suc xs ys i h k ∙ ap (λ n. xored xs (take n ys)) (sym (add-one i))
 
-pub xored_zeros : (xs : List ℕ) (k : ℕ) → xored xs (replicate k 0) ≡ xs
+xored_zeros : (xs : List ℕ) (k : ℕ) → xored xs (replicate k 0) ≡ xs
 xored_zeros [] k = refl
 xored_zeros (x ∷ xs) zero = refl
 xored_zeros (x ∷ xs) (suc k) = (λ i. xor_zero_r x i ∷ xored_zeros xs k i)
@@ -57,3 +59,10 @@ length_padded n D h =
     (λ l. ap length (padded_short n D l) ∙ length-append D (1 ∷ replicate (n - length D - 1) 0) ∙ (let e = length-replicate {A = ℕ} (n - length D - 1) 0 in omega arith))
     (λ m. ap length (padded_full n D m) ∙ omega arith)
     (cases_lt (length D) n)
+
+-- 16 bytes ys written after 16 others
+pub halves : (xs ys zs : List ℕ) → length xs ≡ 16 → length zs ≡ 16 → put_mid 16 16 (xs ++ zs) ys ≡ xs ++ ys
+halves xs ys zs e z =
+    (λ i. take_at xs zs 16 e i ++ (ys ++ drop 16 (drop_at xs zs 16 e i)))
+    ∙ ap (λ l. xs ++ (ys ++ l)) (drop_all 16 zs (omega arith))
+    ∙ ap (λ l. xs ++ l) (append-nil ys)

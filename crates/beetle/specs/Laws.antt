@@ -1,7 +1,8 @@
 -- How sealing and opening belong together, for every map P that sends 32 bytes to 32 bytes and every lawful rate r; what a digest is.
 -- Assumes nothing.
-use Rattle.std.specs.Prelude.{◌≡◌, ℕ, ◌+◌, ◌%◌, ◌<◌, ◌≤◌, List, length, Some, slice_index}
+use Rattle.std.specs.Prelude.{◌≡◌, ℕ, ◌+◌, ◌<◌, ◌≤◌, List, length, Some, slice_index}
 use Rattle.photon.specs.Bytes.{Bytes}
+use Rattle.beetle.specs.Rates.{Lawful}
 use Rattle.beetle.specs.Hashing.{digest}
 use Rattle.beetle.specs.Sealing.{sealed}
 use Rattle.beetle.specs.Opening.{ciphertext, tag_in, opening, tag_of, opened}
@@ -9,12 +10,6 @@ use Rattle.beetle.specs.Opening.{ciphertext, tag_in, opening, tag_of, opened}
 -- P sends 32 bytes to 32 bytes
 abbrev pub Stays : (List ℕ → List ℕ) → Type 0
 Stays P = (s : List ℕ) → Bytes 32 s → Bytes 32 (P s)
-
--- a rate is even and from 2 to 16
-pub record Lawful (r : ℕ) : Type 0 where
-  pub even : r % 2 ≡ 0
-  pub least : 2 ≤ r
-  pub most : r ≤ 16
 
 -- each element is a byte
 abbrev pub Small : List ℕ → Type 0

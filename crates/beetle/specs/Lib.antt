@@ -1,4 +1,6 @@
 pub mod Outcomes
+pub mod Rates
+pub mod LawfulRates
 pub mod Blocks
 pub mod Hashing
 pub mod Mode

@@ -1,6 +1,6 @@
 -- Sealing: PHOTON-Beetle's authenticated encryption with key K, nonce N, associated data A and message M.
 -- Assumes nothing.
-use Rattle.std.specs.Prelude.{ℕ, ◌+◌, cond, ◌||◌, List, ◌++◌, length, drop, Ok, Err, nat_lt}
+use Rattle.std.specs.Prelude.{ℕ, ◌+◌, ◌||◌, List, ◌++◌, length, drop, Ok, Err, nat_lt, if◌then◌else◌}
 use Rattle.refusal.specs.declared.Refusal.TheVariants.{TextTooLong, OutputTooShort}
 use Rattle.beetle.specs.Outcomes.{Outcome, outcome, is_too_long}
 use Rattle.beetle.specs.Blocks.{blocks}
@@ -17,6 +17,6 @@ sealed P r K N A M = (sealing P r K N A M).text ++ tag P (ended r A M (sealing P
 -- sealing M into a buffer that holds B
 unfoldable pub seal_outcome : (List ℕ → List ℕ) → ℕ → List ℕ → List ℕ → List ℕ → List ℕ → List ℕ → Outcome
 seal_outcome P r K N A M B =
-    cond (is_too_long (length A) || is_too_long (length M)) (outcome (Err TextTooLong) B)
-    (cond (nat_lt (length B) (length M + 16)) (outcome (Err OutputTooShort) B)
-    (outcome (Ok tt) (sealed P r K N A M ++ drop (length M + 16) B)))
+    if is_too_long (length A) || is_too_long (length M) then outcome (Err TextTooLong) B
+    else (if nat_lt (length B) (length M + 16) then outcome (Err OutputTooShort) B
+    else outcome (Ok tt) (sealed P r K N A M ++ drop (length M + 16) B))

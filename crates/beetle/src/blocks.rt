@@ -1,54 +1,92 @@
-//! Blocks of a text, and how a block and a constant go into the state.
-ghost use Rattle.std.specs.Prelude.{◌≡◌, ◌+◌, ◌<◌, ◌≤◌, length, take, drop};
-ghost use Rattle.beetle.specs.Blocks.{xored, padded, added, ending};
+//! The blocks of a text.
+ghost use Rattle.std.specs.Prelude.{◌≡◌, ◌≤◌, length, take, drop, if◌then◌else◌};
+ghost use Rattle.std.specs.Iterator.{YieldsFirstBy, item_count};
+ghost use Rattle.beetle.specs.Blocks.{blocks, ending};
+ghost use Rattle.beetle.specs.Mode.{empty};
 
 use crate::rate::Rate;
+use std::marker::PhantomData;
 
-/// The first block of a text, at most r bytes, and the rest.
+/// The first block of a text, at most the rate's bytes, and the rest.
 pub(crate) fn first_block<R: Rate>(text: &[u8]) -> (&[u8], &[u8])
-    ensures block { result.0.now ≡ take R.Rate.r text.now }
-    ensures rest { result.1.now ≡ drop R.Rate.r text.now }
-    ensures within { length result.0.now ≤ R.Rate.r }
-    ensures whole { length result.0.now + length result.1.now ≡ length text.now }
-    ensures some { 0 < length text.now → 0 < length result.0.now }
+    ensures block { result.0.now ≡ take R.BYTES text.now }
+    ensures rest { result.1.now ≡ drop R.BYTES text.now }
 {
-    text.split_at(R::bytes().min(text.len()))
+    text.split_at(R::BYTES.min(text.len()))
 }
 
-/// XORs a block into the front of the state.
-fn xor_front(state: &mut [u8; 32], block: &[u8])
-    requires { length block.now ≤ 32 }
-    ensures { state.new ≡ xored state.old block.now }
-{
-    for (i, b) in block.iter().enumerate() {
-        state[i] ^= *b;
+/// A block: at most the rate's bytes.
+#[derive(Drop)]
+pub(crate) struct Block<'a, R: Rate> {
+    pub(crate) bytes: &'a [u8],
+    rate: PhantomData<R>,
+    ghost within: { length bytes.now ≤ R.BYTES },
+}
+
+impl<'a, R: Rate> Block<'a, R> {
+    pub(crate) fn new(bytes: &'a [u8]) -> Self
+        requires { length bytes.now ≤ R.BYTES }
+        ensures { result.bytes.now ≡ bytes.now }
+    {
+        Block {
+            bytes,
+            rate: PhantomData,
+        }
     }
 }
 
-/// XORs a block, padded to r bytes, into the front of the state.
-pub(crate) fn xor_padded<R: Rate>(state: &mut [u8; 32], block: &[u8])
-    requires { length block.now ≤ R.Rate.r }
-    ensures { state.new ≡ xored state.old (padded R.Rate.r block.now) }
-{
-    xor_front(state, block);
-    let n = block.len();
-    if n < R::bytes() {
-        state[n] ^= 1;
+/// The blocks of a text in order, of which the last may be shorter.
+#[derive(Drop)]
+pub(crate) struct Blocks<'a, R: Rate> {
+    rest: &'a [u8],
+    rate: PhantomData<R>,
+}
+
+impl<'a, R: Rate> Blocks<'a, R> {
+    pub(crate) fn new(text: &'a [u8]) -> Self
+        ensures { result.rest.now ≡ text.now }
+    {
+        Blocks {
+            rest: text,
+            rate: PhantomData,
+        }
     }
 }
 
-/// Adds a constant to the state: XORs 32·c into its last byte.
-pub(crate) fn add_constant(state: &mut [u8; 32], c: u8)
-    requires { c < 8 }
-    ensures { state.new ≡ added c state.old }
-{
-    state[31] ^= 32 * c;
+impl<'a, R: Rate> Iterator for Blocks<'a, R> {
+    type Item = Block<'a, R>;
+
+    ghost next_gives = { YieldsFirstBy (λ block. block.bytes.now) (λ it. blocks R.BYTES it.rest.now) };
+
+    ghost remaining = { item_count (λ it. blocks R.BYTES it.rest.now) };
+
+    #[tactic(auto, using(crate::proofs::Cuts::blocks_none, crate::proofs::Cuts::blocks_more))]
+    fn next(&mut self) -> Option<Block<'a, R>> {
+        if self.rest.is_empty() {
+            return None;
+        }
+        let (block, rest) = first_block::<R>(self.rest);
+        self.rest = rest;
+        Some(Block::new(block))
+    }
 }
 
-/// The constant after a text: `whole` if r divides its length, else `cut`.
+/// The constant after a text: `whole` if the rate divides its length, else `cut`.
+#[tactic(auto, unfolding(crate::specs::Blocks::ending))]
 pub(crate) fn ending_constant<R: Rate>(text: &[u8], whole: u8, cut: u8) -> u8
-    ensures { result ≡ ending R.Rate.r text.now whole cut }
+    ensures { result ≡ ending R.BYTES text.now whole cut }
 {
-    let r = R::bytes();
-    if text.len() % r == 0 { whole } else { cut }
+    if text.len() % R::BYTES == 0 {
+        whole
+    } else {
+        cut
+    }
+}
+
+/// The constant after a text that has another beside it: `alone` are the two where the other is empty.
+pub(crate) fn constant_after<R: Rate>(text: &[u8], other: &[u8], alone: (u8, u8)) -> u8
+    ensures { result ≡ (if empty other.now then ending R.BYTES text.now alone.0 alone.1 else ending R.BYTES text.now 1 2) }
+{
+    let (whole, cut) = if other.is_empty() { alone } else { (1, 2) };
+    ending_constant::<R>(text, whole, cut)
 }

@@ -1,59 +1,36 @@
 //! The rate: how many bytes of the state meet the text between two permutations.
-ghost use Rattle.std.specs.Prelude.{◌≡◌, ℕ, ◌%◌, ◌≤◌};
-ghost use Rattle.std.proofs.Common.{rules};
+ghost use Rattle.std.specs.Prelude.{ℕ};
+ghost use Rattle.beetle.specs.Rates.{Lawful};
+ghost use Rattle.beetle.specs.LawfulRates.{lawful_4, lawful_16};
 
-/// A choice with one constant, the rate r in bytes: even and from 2 to 16.
+/// A choice with one constant, which is even and from 2 to 16.
 pub trait Rate {
-    ghost r: { ℕ };
+    ghost BYTES: { ℕ };
 
     /// The rate in bytes.
-    const RATE: usize;
+    const BYTES: usize;
 
-    /// Tells the constant. Generic code learns the rate from here.
-    fn bytes() -> usize
-        ensures { result ≡ r };
-
-    ghost even: { r % 2 ≡ 0 };
-
-    ghost least: { 2 ≤ r };
-
-    ghost most: { r ≤ 16 };
+    ghost lawful: { Lawful BYTES };
 }
 
 /// 16 bytes, 128 bits.
 pub struct Rate128;
 
 impl Rate for Rate128 {
-    ghost r = { 16 };
+    ghost BYTES = { 16 };
 
-    const RATE: usize = 16;
+    ghost lawful = { lawful_16 };
 
-    ghost even = { Prim.search rules };
-
-    ghost least = { Prim.search rules };
-
-    ghost most = { Prim.search rules };
-
-    fn bytes() -> usize {
-        Self::RATE
-    }
+    const BYTES: usize = 16;
 }
 
 /// 4 bytes, 32 bits.
 pub struct Rate32;
 
 impl Rate for Rate32 {
-    ghost r = { 4 };
+    ghost BYTES = { 4 };
 
-    const RATE: usize = 4;
+    ghost lawful = { lawful_4 };
 
-    ghost even = { Prim.search rules };
-
-    ghost least = { Prim.search rules };
-
-    ghost most = { Prim.search rules };
-
-    fn bytes() -> usize {
-        Self::RATE
-    }
+    const BYTES: usize = 4;
 }

@@ -2,7 +2,6 @@
 use crate::{Rate, Rate32, Rate128, hash, open, seal};
 use photon::BenchEngine;
 use std::process::Abort;
-use std::test::Fail;
 
 const KEY: &[u8; 16] = b"\x10\x11\x12\x13\x14\x15\x16\x17\x18\x19\x1a\x1b\x1c\x1d\x1e\x1f";
 
@@ -65,12 +64,13 @@ fn sealed_texts(rt: HostRuntime) {
 }
 
 /// What is sealed opens again, and with any byte of its tag changed it is refused and the output is zeros.
-fn opens_by_its_tag<R: Rate>(rt: &impl Abort, ad: &[u8], text: &[u8; 9]) -> Result<(), Fail> {
+fn opens_by_its_tag<R: Rate>(rt: &impl Abort, ad: &[u8], text: &[u8; 9]) {
     let mut sealed = [0u8; 25];
     let mut out = [7u8; 9];
     assert!(rt; seal::<R, BenchEngine>(&BenchEngine, KEY, NONCE, ad, text, &mut sealed).is_ok());
     assert!(rt; open::<R, BenchEngine>(&BenchEngine, KEY, NONCE, ad, &sealed, &mut out).is_ok());
     assert!(rt; &out[0..9] == &text[0..9]);
+    // By index: a byte is changed, and changed back.
     for i in 9..25 {
         sealed[i] ^= 1;
         assert!(rt;
@@ -79,13 +79,12 @@ fn opens_by_its_tag<R: Rate>(rt: &impl Abort, ad: &[u8], text: &[u8; 9]) -> Resu
         assert!(rt; &out[0..9] == b"\0\0\0\0\0\0\0\0\0".as_slice());
         sealed[i] ^= 1;
     }
-    Ok(())
 }
 
 #[test]
-fn both_rates(rt: HostRuntime) -> Result<(), Fail> {
-    opens_by_its_tag::<Rate128>(&rt, b"", b"nine byte")?;
-    opens_by_its_tag::<Rate128>(&rt, b"heading", b"nine byte")?;
-    opens_by_its_tag::<Rate32>(&rt, b"", b"nine byte")?;
-    opens_by_its_tag::<Rate32>(&rt, b"heading", b"nine byte")
+fn both_rates(rt: HostRuntime) {
+    opens_by_its_tag::<Rate128>(&rt, b"", b"nine byte");
+    opens_by_its_tag::<Rate128>(&rt, b"heading", b"nine byte");
+    opens_by_its_tag::<Rate32>(&rt, b"", b"nine byte");
+    opens_by_its_tag::<Rate32>(&rt, b"heading", b"nine byte");
 }

@@ -1,4 +1,5 @@
 //! The calls of `exports` for C, in a static library. A slice passes as a pointer and a length.
+//! A symbol of C is not generic, and states a contract of its own: so there is one for each rate, with its clauses.
 #![tactic(auto)]
 
 ghost use Rattle.std.specs.Prelude.{◌≡◌};
@@ -7,6 +8,8 @@ ghost use Rattle.beetle.specs.Opening.{open_outcome};
 ghost use Rattle.beetle.specs.Sealing.{seal_outcome};
 ghost use Rattle.photon.specs.Photon.{photon256};
 ghost use Rattle.exports.specs.Codes.{code};
+
+use beetle::{Rate32, Rate128};
 
 #[unsafe(no_mangle)]
 pub extern "C" fn lochgrater_permute(state: &mut [u8; 32])
@@ -34,7 +37,7 @@ pub extern "C" fn lochgrater_seal_128(
     ensures answer { result ≡ code (seal_outcome photon256 16 key.now nonce.now ad.now text.now out.old).answer }
     ensures buffer { out.new ≡ (seal_outcome photon256 16 key.now nonce.now ad.now text.now out.old).buffer }
 {
-    exports::lochgrater_seal_128(key, nonce, ad, text, out)
+    exports::lochgrater_seal::<Rate128>(key, nonce, ad, text, out)
 }
 
 #[unsafe(no_mangle)]
@@ -48,7 +51,7 @@ pub extern "C" fn lochgrater_seal_32(
     ensures answer { result ≡ code (seal_outcome photon256 4 key.now nonce.now ad.now text.now out.old).answer }
     ensures buffer { out.new ≡ (seal_outcome photon256 4 key.now nonce.now ad.now text.now out.old).buffer }
 {
-    exports::lochgrater_seal_32(key, nonce, ad, text, out)
+    exports::lochgrater_seal::<Rate32>(key, nonce, ad, text, out)
 }
 
 #[unsafe(no_mangle)]
@@ -62,7 +65,7 @@ pub extern "C" fn lochgrater_open_128(
     ensures answer { result ≡ code (open_outcome photon256 16 key.now nonce.now ad.now text.now out.old).answer }
     ensures buffer { out.new ≡ (open_outcome photon256 16 key.now nonce.now ad.now text.now out.old).buffer }
 {
-    exports::lochgrater_open_128(key, nonce, ad, text, out)
+    exports::lochgrater_open::<Rate128>(key, nonce, ad, text, out)
 }
 
 #[unsafe(no_mangle)]
@@ -76,5 +79,5 @@ pub extern "C" fn lochgrater_open_32(
     ensures answer { result ≡ code (open_outcome photon256 4 key.now nonce.now ad.now text.now out.old).answer }
     ensures buffer { out.new ≡ (open_outcome photon256 4 key.now nonce.now ad.now text.now out.old).buffer }
 {
-    exports::lochgrater_open_32(key, nonce, ad, text, out)
+    exports::lochgrater_open::<Rate32>(key, nonce, ad, text, out)
 }

@@ -1,42 +1,33 @@
-use Rattle.std.proofs.Common.{◌≡◌, ◌+◌, ◌-◌, ◌++◌, length, take, drop, sym, ap, ◌∙◌, arith}
+use Rattle.std.proofs.Common.{◌≡◌, ◌+◌, ◌-◌, ◌++◌, length, drop, Err, sym, ap, ◌∙◌, arith, rules}
 use Rattle.beetle.specs.Outcomes.{Outcome}
-use Rattle.beetle.specs.Blocks.{blocks}
-use Rattle.beetle.specs.Mode.{rho, passed, ended, tag}
 use Rattle.beetle.specs.Sealing.{sealing, sealed}
-use Rattle.beetle.proofs.Ends.{seal_long, seal_short, seal_granted, tag_after}
+use Rattle.beetle.proofs.Ends.{seal_refused, seal_granted, tag_after}
 use Rattle.beetle.proofs.sealing.seal.Goals as goal
 
-pub returns-then-ad-gt-LONGEST_TEXT : goal.returns-then-ad-gt-LONGEST_TEXT
-returns-then-ad-gt-LONGEST_TEXT g c =
-    let e = seal_long (g.E.Engine.permutes c.args.engine.now) g.R.Rate.r c.args.key.now c.args.nonce.now c.args.ad.now c.args.text.now c.args.out.now c.then-ad-gt-LONGEST_TEXT.either in
-    record { answer = sym (ap (λ (o : Outcome). o.answer) e); buffer = sym (ap (λ (o : Outcome). o.buffer) e) }
-
-pub returns-then-out-n : goal.returns-then-out-n
-returns-then-out-n g c =
-    let e = seal_short (g.E.Engine.permutes c.args.engine.now) g.R.Rate.r c.args.key.now c.args.nonce.now c.args.ad.now c.args.text.now c.args.out.now c.if-ad-gt-LONGEST_TEXT.false c.if-text-gt-LONGEST_TEXT.false c.if-out-n.true in
-    record { answer = sym (ap (λ (o : Outcome). o.answer) e); buffer = sym (ap (λ (o : Outcome). o.buffer) e) }
+pub returns-in_err-check_sizes : goal.returns-in_err-check_sizes
+returns-in_err-check_sizes g c =
+    let gives = seal_refused (g.E.Engine.permutes c.args.engine.now) g.R.Rate.BYTES c.args.key.now c.args.nonce.now c.args.ad.now c.args.text.now c.args.out.now
+    _ _ c.max.ensures (sym c.in_err-check_sizes.ensures.answer) in
+    let is : c.from_residual.result ≡ Err c.in_err-check_sizes.field-0.0 = search rules in
+    record {
+      answer = is ∙ sym (ap (λ (o : Outcome). o.answer) gives);
+      buffer = sym (ap (λ (o : Outcome). o.buffer) gives);
+    }
 
 pub returns : goal.returns
-unfolding sealed sealing tag
+unfolding sealed sealing
 returns g c =
-    let P = g.E.Engine.permutes c.args.engine.now in
-    let r = g.R.Rate.r in
-    let A = c.args.ad.now in
     let M = c.args.text.now in
     let B = c.args.out.now in
     let n = length M in
-    let e = seal_granted P r c.args.key.now c.args.nonce.now A M B c.if-ad-gt-LONGEST_TEXT.false c.if-text-gt-LONGEST_TEXT.false c.if-out-n.false in
-    let begins = c.begin-state.ensures in
-    let state : c.seal_text.new.state ≡ (sealing P r c.args.key.now c.args.nonce.now A M).state =
-    c.seal_text.ensures.state ∙ ap (λ s. (passed P (rho r) s (blocks r M)).state) begins in
-    let text : c.seal_text.new.out ≡ (sealing P r c.args.key.now c.args.nonce.now A M).text ++ drop n B =
-    c.seal_text.ensures.text ∙ ap (λ s. (passed P (rho r) s (blocks r M)).text ++ drop n B) begins in
-    let written : c.copy_from_slice.new.self ≡ tag P (ended r A M (sealing P r c.args.key.now c.args.nonce.now A M).state) =
-    c.copy_from_slice.ensures.after ∙ ap (take 16) c.finish.ensures ∙ ap (λ s. tag P (ended r A M s)) state in
+    let C = (sealing (g.E.Engine.permutes c.args.engine.now) g.R.Rate.BYTES c.args.key.now c.args.nonce.now c.args.ad.now M).text in
+    let gives = seal_granted (g.E.Engine.permutes c.args.engine.now) g.R.Rate.BYTES c.args.key.now c.args.nonce.now c.args.ad.now M B
+    _ c.max.ensures (sym c.in_ok-check_sizes.ensures.answer) in
+    let fits = c.in_ok-check_sizes.ensures.fits in
     record {
-      answer = sym (ap (λ (o : Outcome). o.answer) e);
+      answer = sym (ap (λ (o : Outcome). o.answer) gives);
       buffer =
-          tag_after _ B _ _ n (n + 16 - n) text c.seal_text.auto.out (omega arith) (omega arith)
-          ∙ ap (λ t. ((sealing P r c.args.key.now c.args.nonce.now A M).text ++ t) ++ drop (n + 16) B) written
-          ∙ sym (ap (λ (o : Outcome). o.buffer) e);
+          tag_after C B _ _ n (n + 16 - n) c.pass-tag.ensures.text c.pass-tag.auto.out (omega arith) (omega arith)
+          ∙ ap (λ t. (C ++ t) ++ drop (n + 16) B) (c.copy_from_slice.ensures.after ∙ c.pass-tag.ensures.tag)
+          ∙ sym (ap (λ (o : Outcome). o.buffer) gives);
     }
