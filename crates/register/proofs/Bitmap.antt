@@ -1,14 +1,16 @@
 -- Bits of the chart's words: one that is set, and those of a blank chart.
 -- Assumes nothing.
-use Rattle.std.proofs.Common.{◌≡◌, ℕ, zero, suc, ◌+◌, ◌-◌, ◌*◌, ◌/◌, ◌%◌, ◌^◌, ◌<◌, Bool, true, false, ◌&&◌, ◌||◌, eqb, ltb, List, length, get_or, set, replicate, sym, refl, ap, ◌∙◌, ⊎_elim, arith}
+use Rattle.std.proofs.Common.{◌≡◌, ℕ, ◌*◌, ◌/◌, ◌%◌, ◌^◌, ◌<◌, false, ◌&&◌, ◌||◌, eqb, ltb, List, length, get_or, set, max, replicate, sym, ap, ◌∙◌, ⊎_elim, arith}
 use mathlib.Core.Path.{fun_ext}
-use native.Mathlib.Nat.{zero-div, div-eq_of_lt, div_self}
-use lib.Bits.{bit_and, bit_or, or_shr, or_mod, or_zero_r, and_mask}
-use Rattle.std.proofs.lemmas.Nat.{pow-add, pow_pos, pow_below, shl-shr, one_shl, mod_below}
+use native.Mathlib.Nat.{zero-div}
+use lib.Bits.{bit_and, bit_or, and_mask}
+use Rattle.std.proofs.lemmas.Nat.{one_shl, mod_below}
 use Rattle.std.proofs.lemmas.List.{get_or-set_same, get_or-set_other, get_or-replicate, get_or_past}
-use Rattle.std.proofs.lemmas.Bool.{cases_lt, cases_eq, and_left, and_right, le-ltb, lt-ltb, eq-eqb, ne_eqb}
+use Rattle.std.proofs.lemmas.Bool.{cases_lt, cases_eq, and_right, le-ltb, lt-ltb, eq-eqb, ne_eqb}
+use Rattle.std.proofs.lemmas.Nat.Bits.{bit_at-pow_same, bit_at-pow_other, bit_at_or}
+use Rattle.std.specs.Int.{bit_at}
 use Rattle.register.specs.Chart.{bit, charted}
-use Rattle.register.specs.Runs.{Small, with_number}
+use Rattle.register.specs.Runs.{with_number}
 
 bit_and_one : (w k : ℕ) → eqb (bit_and (w / 2 ^ k) 1) 1 ≡ bit w k
 bit_and_one w k = ap (λ x. eqb x 1) (and_mask (w / 2 ^ k) 1)
@@ -17,43 +19,18 @@ bit_and_one w k = ap (λ x. eqb x 1) (and_mask (w / 2 ^ k) 1)
 pub holds_at : (ws : List ℕ) (n : ℕ) → n < 4096 → eqb (bit_and (get_or ws (n / 64) 0 / 2 ^ (n % 64)) 1) 1 ≡ charted ws n
 holds_at ws n h = bit_and_one (get_or ws (n / 64) 0) (n % 64) ∙ ap (λ b. b && bit (get_or ws (n / 64) 0) (n % 64)) (sym (lt-ltb n 4096 h))
 
-pow_same : (k : ℕ) → 2 ^ k / 2 ^ k % 2 ≡ 1
-pow_same k = ap (λ x. x % 2) (div_self (pow_pos k))
-
-even : (d : ℕ) → 2 ^ suc d % 2 ≡ 0
-even d = omega arith
-
-pow_other : (j k : ℕ) → (j ≡ k → ⊥) → 2 ^ k / 2 ^ j % 2 ≡ 0
-pow_other j k ne =
-    ⊎_elim
-    (λ lt.
-    let e : k ≡ suc (k - j - 1) + j = omega arith in
-    ap (λ x. 2 ^ x / 2 ^ j % 2) e ∙ ap (λ x. x / 2 ^ j % 2) (pow-add 2 (suc (k - j - 1)) j) ∙ ap (λ x. x % 2) (shl-shr (2 ^ suc (k - j - 1)) j) ∙ even (k - j - 1))
-    (λ ge. let lt : k < j = omega arith in ap (λ x. x % 2) (div-eq_of_lt (pow_below k j lt)))
-    (cases_lt j k)
-
-one_of : (a : ℕ) → a < 2 → bit_or a 1 ≡ 1
-one_of zero h = refl
-one_of (suc zero) h = refl
-one_of (suc (suc a)) h = absurd (omega arith)
-
-or_bit : (w v j : ℕ) → bit_or w v / 2 ^ j % 2 ≡ bit_or (w / 2 ^ j % 2) (v / 2 ^ j % 2)
-or_bit w v j = ap (λ x. x % 2) (or_shr w v j) ∙ or_mod (w / 2 ^ j) (v / 2 ^ j) 1
-
 pub bit_set : (w k j : ℕ) → bit (bit_or w (2 ^ k)) j ≡ (eqb j k || bit w j)
 bit_set w k j =
     ⊎_elim
-    (λ e.
-    ap (λ x. eqb x 1) (or_bit w (2 ^ k) j ∙ ap (λ i. bit_or (w / 2 ^ j % 2) (2 ^ k / 2 ^ i % 2)) e ∙ ap (bit_or (w / 2 ^ j % 2)) (pow_same k) ∙ one_of (w / 2 ^ j % 2) (mod_below _ 2 (omega arith))) ∙
-    ap (λ b. b || bit w j) (sym (eq-eqb j k e)))
-    (λ ne.
-    ap (λ x. eqb x 1) (or_bit w (2 ^ k) j ∙ ap (bit_or (w / 2 ^ j % 2)) (pow_other j k ne) ∙ or_zero_r _) ∙
-    ap (λ b. b || bit w j) (sym (ne_eqb j k ne)))
+    (λ e. eq-eqb _ 1 (bit_at_or w (2 ^ k) j ∙ highest (bit_at w j) (mod_below _ 2 (omega arith)) (ap (bit_at (2 ^ k)) e ∙ bit_at-pow_same k)) ∙ ap (λ b. b || bit w j) (sym (eq-eqb j k e)))
+    (λ ne. ap (λ x. eqb x 1) (bit_at_or w (2 ^ k) j ∙ lowest (bit_at w j) (bit_at-pow_other k j ne)) ∙ ap (λ b. b || bit w j) (sym (ne_eqb j k ne)))
     (cases_eq j k)
+  where
+    highest : {b : ℕ} (a : ℕ) → a < 2 → b ≡ 1 → max a b ≡ 1
+    highest a h e = omega arith
 
-pub charted_small : (ws : List ℕ) → Small (charted ws)
-charted_small ws n e =
-    ⊎_elim (λ h. h) (λ h. absurd (let z : ◌≡◌ {A = Bool} false true = sym (and_left _ _ (le-ltb n 4096 h)) ∙ e in mathlib.Core.Bool.false≢true z)) (cases_lt n 4096)
+    lowest : {b : ℕ} (a : ℕ) → b ≡ 0 → max a b ≡ a
+    lowest a e = omega arith
 
 pub blank_chart : charted (replicate 64 0) ≡ (λ n. false)
 blank_chart = fun_ext (λ n. and_right (ltb n 4096) _ (ap (λ w. bit w (n % 64)) (zeros (n / 64)) ∙ ap (λ x. eqb (x % 2) 1) (zero-div (2 ^ (n % 64)))))

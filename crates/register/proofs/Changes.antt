@@ -3,6 +3,7 @@
 use Rattle.std.proofs.Common.{◌≡◌, ℕ, zero, suc, ◌+◌, ◌-◌, ◌<◌, ◌≤◌, Bool, true, false, ◌&&◌, ◌||◌, eqb, List, [], ◌∷◌, ◌++◌, length, get_or, take, drop, set, sym, refl, ap, ◌∙◌, subst, ⊎_elim, add-zero, add-one, arith, take-append-drop}
 use Rattle.std.proofs.lemmas.List.{drop_more, set_split, get_or-drop, length-drop, length-take-le, drop_at, append_assoc, drop-drop, take_at, take-append-le, drop-append-le}
 use Rattle.std.proofs.lemmas.Bool.{and_parts, and_from, or_parts, cases_eq, cases_lt}
+use Rattle.std.proofs.Math.Bool.{and_assoc, or_assoc, or_comm}
 use Rattle.std.proofs.lemmas.Bool.Decides.{nat_tests}
 use Rattle.std.specs.List.{insert, remove}
 use Rattle.register.specs.Runs.{Pair, with_number, within, covered, fits, apart}
@@ -13,27 +14,16 @@ abbrev pub past : ℕ → List Pair → ℕ
 past least [] = least
 past least (p ∷ ps) = past (p.0 + p.1 + 1) ps
 
-and_assoc : (a b c : Bool) → (a && (b && c)) ≡ ((a && b) && c)
-and_assoc true b c = refl
-and_assoc false b c = refl
-
-or_assoc : (a b c : Bool) → (a || (b || c)) ≡ ((a || b) || c)
-or_assoc true b c = refl
-or_assoc false b c = refl
-
 pub or_between : (a b c : Bool) → (a || (b || c)) ≡ (b || (a || c))
-or_between true true c = refl
-or_between true false c = refl
-or_between false true c = refl
-or_between false false c = refl
+or_between a b c = sym (or_assoc a b c) ∙ ap (λ x. x || c) (or_comm a b) ∙ or_assoc b a c
 
 apart_append : (least : ℕ) (xs ys : List Pair) → apart least (xs ++ ys) ≡ (apart least xs && apart (past least xs) ys)
 apart_append least [] ys = refl
-apart_append least (p ∷ xs) ys = ap (λ b. fits least p && b) (apart_append (p.0 + p.1 + 1) xs ys) ∙ and_assoc (fits least p) _ _
+apart_append least (p ∷ xs) ys = ap (λ b. fits least p && b) (apart_append (p.0 + p.1 + 1) xs ys) ∙ sym (and_assoc (fits least p) _ _)
 
 pub covered_append : (xs ys : List Pair) (k : ℕ) → covered (xs ++ ys) k ≡ (covered xs k || covered ys k)
 covered_append [] ys k = refl
-covered_append (p ∷ xs) ys k = ap (λ b. within p k || b) (covered_append xs ys k) ∙ or_assoc (within p k) _ _
+covered_append (p ∷ xs) ys k = ap (λ b. within p k || b) (covered_append xs ys k) ∙ sym (or_assoc (within p k) _ _)
 
 -- qs are apart, and cover what ps cover and n
 pub record Adds (least : ℕ) (ps : List Pair) (n : ℕ) (qs : List Pair) : Type 0 where
@@ -77,16 +67,13 @@ within_joined p q n k e f = grind (arith, nat_tests)
 within_lone : (n k : ℕ) → within (n, 1) k ≡ eqb k n
 within_lone n k = grind (arith, nat_tests)
 
-or_regroup : (a b c : Bool) → ((a || b) || c) ≡ (a || (b || c))
-or_regroup a b c = sym (or_assoc a b c)
-
 left_mid : (least : ℕ) (p : Pair) (ys : List Pair) (n : ℕ) → p.0 + p.1 ≡ n → n < 4096 → apart (n + 2) ys ≡ true → apart least (p ∷ ys) ≡ true → Adds least (p ∷ ys) n ((p.0, p.1 + 1) ∷ ys)
 left_mid least p ys n e lt on h =
     let a = apart_parts least p ys h in
     let f : n + 2 ≡ p.0 + (p.1 + 1) + 1 = omega arith in
     record {
       gaps = apart_from least (p.0, p.1 + 1) ys (record { low = a.low; some = omega arith; high = omega arith; rest = subst (λ m. apart m ys ≡ true) f on });
-      same = λ k. ap (λ b. b || covered ys k) (within_more p n k e) ∙ or_regroup (eqb k n) (within p k) (covered ys k);
+      same = λ k. ap (λ b. b || covered ys k) (within_more p n k e) ∙ or_assoc (eqb k n) (within p k) (covered ys k);
     }
 
 right_mid : (least : ℕ) (p : Pair) (ys : List Pair) (n : ℕ) → p.0 ≡ n + 1 → least ≤ n → apart least (p ∷ ys) ≡ true → Adds least (p ∷ ys) n ((p.0 - 1, p.1 + 1) ∷ ys)
@@ -95,7 +82,7 @@ right_mid least p ys n e le h =
     let f : p.0 + p.1 + 1 ≡ p.0 - 1 + (p.1 + 1) + 1 = omega arith in
     record {
       gaps = apart_from least (p.0 - 1, p.1 + 1) ys (record { low = omega arith; some = omega arith; high = omega (arith, a.high); rest = subst (λ m. apart m ys ≡ true) f a.rest });
-      same = λ k. ap (λ b. b || covered ys k) (within_earlier p n k e) ∙ or_regroup (eqb k n) (within p k) (covered ys k);
+      same = λ k. ap (λ b. b || covered ys k) (within_earlier p n k e) ∙ or_assoc (eqb k n) (within p k) (covered ys k);
     }
 
 join_mid : (least : ℕ) (p q : Pair) (ys : List Pair) (n : ℕ) → p.0 + p.1 ≡ n → q.0 ≡ n + 1 → apart least (p ∷ q ∷ ys) ≡ true → Adds least (p ∷ q ∷ ys) n ((p.0, p.1 + (q.1 + 1)) ∷ ys)
@@ -106,8 +93,8 @@ join_mid least p q ys n e f h =
     record {
       gaps = apart_from least (p.0, p.1 + (q.1 + 1)) ys (record { low = a.low; some = omega arith; high = omega (arith, b.high); rest = subst (λ m. apart m ys ≡ true) g b.rest });
       same = λ k.
-          ap (λ b. b || covered ys k) (within_joined p q n k e f) ∙ or_regroup (eqb k n) (within p k || within q k) (covered ys k) ∙
-          ap (λ b. eqb k n || b) (or_regroup (within p k) (within q k) (covered ys k));
+          ap (λ b. b || covered ys k) (within_joined p q n k e f) ∙ or_assoc (eqb k n) (within p k || within q k) (covered ys k) ∙
+          ap (λ b. eqb k n || b) (or_assoc (within p k) (within q k) (covered ys k));
     }
 
 lone_mid : (least : ℕ) (ys : List Pair) (n : ℕ) → least ≤ n → n < 4096 → apart (n + 2) ys ≡ true → Adds least ys n ((n, 1) ∷ ys)

@@ -5,6 +5,7 @@ pub mod Changes
 pub mod Later
 pub mod Touching
 pub mod Walk
+pub mod Finding
 pub mod Writing
 pub mod Pages
 pub mod Loading

@@ -1,14 +1,13 @@
 -- Bytes and pairs: a page's pairs are the runs that were written, and its bytes come back from its pairs.
 -- Assumes nothing.
-use Rattle.std.proofs.Common.{◌≡◌, ℕ, zero, suc, ◌+◌, ◌-◌, ◌*◌, ◌/◌, ◌%◌, ◌<◌, ◌≤◌, true, false, cond, eqb, ltb, leb, List, [], ◌∷◌, ◌++◌, length, get_or, drop, is_some, is_ok, Some, None, Ok, Err, Result, sym, refl, ap, ◌∙◌, subst, ⊎_elim, arith, length-drop}
+use Rattle.std.proofs.Common.{◌≡◌, ℕ, zero, suc, ◌+◌, ◌-◌, ◌*◌, ◌/◌, ◌%◌, ◌<◌, ◌≤◌, true, false, cond, eqb, ltb, leb, List, [], ◌∷◌, ◌++◌, length, get_or, drop, map, is_some, is_ok, Some, None, Ok, Err, Option, Result, sym, refl, ap, ◌∙◌, subst, ⊎_elim, arith, length-drop}
 use mathlib.Core.Path.{fun_ext}
 use Rattle.refusal.specs.declared.Refusal.{Refusal}
-use Rattle.refusal.specs.declared.Refusal.TheVariants.{TooManyRuns, BadPage, NotBlank}
 use Rattle.std.proofs.lemmas.Nat.{mod-mul-add, div-mul-add}
-use Rattle.std.proofs.lemmas.List.{get_or-drop}
-use Rattle.std.proofs.lemmas.Bool.{cases_Bool, and_parts, and_from, le-leb, leb-true, eq-eqb, eqb-true, cond-true, cond-false, le-ltb, lt-ltb}
+use Rattle.std.proofs.lemmas.Bool.{cases_Bool, and_parts, and_from, le-leb, leb-true, eq-eqb, eqb-true, cond-true, cond-false, le-ltb}
 use Rattle.std.specs.List.{flat_map}
-use Rattle.register.specs.Page.{word, pair_bytes, page, number_of, pairs_in, page_count, page_pairs, whole_page, pair_fault, page_fault, Faultless, fault_answer, load_answer, loaded, load_after, PagesTellSets, WrittenPagesLoad, BlankIsEmpty}
+use Rattle.std.specs.Simd.{first_chunks}
+use Rattle.register.specs.Page.{word, pair_bytes, page, number_of, pair_in, pairs_in, page_count, page_pairs, whole_page, pair_fault, page_fault, Faultless, refused_at, fault_answer, load_answer, loaded, load_after, PagesTellSets, WrittenPagesLoad, BlankIsEmpty}
 use Rattle.register.specs.Runs.{Meaning, Numbers, Pair, Small, runs, run_count, covered, fits, apart}
 use Rattle.register.specs.Cover.{apart_parts, runs_covered, runs_apart, covered_runs, at_most_2048_runs}
 use Rattle.register.proofs.Writing.{length_page}
@@ -46,34 +45,19 @@ pairs_count (x ∷ y ∷ []) c e = absurd (omega arith)
 pairs_count (x ∷ y ∷ z ∷ []) c e = absurd (omega arith)
 pairs_count (x ∷ y ∷ z ∷ w ∷ bs) c e = omega (arith, pairs_count bs (c - 1) (omega arith))
 
-abbrev four_at : List ℕ → ℕ → Pair
-four_at bs j = (number_of (get_or bs j 0) (get_or bs (j + 1) 0), number_of (get_or bs (j + 2) 0) (get_or bs (j + 3) 0))
+-- the pairs of the pieces of four bytes
+pieces_pairs : (k : ℕ) (bs : List ℕ) → length bs ≡ k * 4 → map pair_in (first_chunks 4 k bs) ≡ pairs_in bs
+pieces_pairs zero [] e = refl
+pieces_pairs zero (x ∷ bs) e = absurd (omega arith)
+pieces_pairs (suc k) [] e = absurd (omega arith)
+pieces_pairs (suc k) (x ∷ []) e = absurd (omega arith)
+pieces_pairs (suc k) (x ∷ y ∷ []) e = absurd (omega arith)
+pieces_pairs (suc k) (x ∷ y ∷ z ∷ []) e = absurd (omega arith)
+pieces_pairs (suc k) (x ∷ y ∷ z ∷ w ∷ bs) e = ap (λ ps. pair_in (x ∷ y ∷ z ∷ w ∷ []) ∷ ps) (pieces_pairs k bs (omega arith))
 
-pairs_get : (bs : List ℕ) (i j : ℕ) → j ≡ 4 * i → j + 4 ≤ length bs → get_or (pairs_in bs) i (0, 0) ≡ four_at bs j
-pairs_get [] i j e h = absurd (omega arith)
-pairs_get (x ∷ []) i j e h = absurd (omega arith)
-pairs_get (x ∷ y ∷ []) i j e h = absurd (omega arith)
-pairs_get (x ∷ y ∷ z ∷ []) i j e h = absurd (omega arith)
-pairs_get (x ∷ y ∷ z ∷ w ∷ bs) zero j e h = subst (λ k. (number_of x y, number_of z w) ≡ four_at (x ∷ y ∷ z ∷ w ∷ bs) k) (sym e) refl
-pairs_get (x ∷ y ∷ z ∷ w ∷ bs) (suc i) j e h =
-    let k : ℕ = j - 4 in
-    let all : List ℕ = x ∷ y ∷ z ∷ w ∷ bs in
-    let a : suc (suc (suc (suc k))) ≡ j = omega arith in
-    let b : suc (suc (suc (suc (k + 1)))) ≡ j + 1 = omega arith in
-    let c : suc (suc (suc (suc (k + 2)))) ≡ j + 2 = omega arith in
-    let d : suc (suc (suc (suc (k + 3)))) ≡ j + 3 = omega arith in
-    pairs_get bs i k (omega arith) (omega arith) ∙
-    (λ t. (number_of (get_or all (a t) 0) (get_or all (b t) 0), number_of (get_or all (c t) 0) (get_or all (d t) 0)))
-
--- the pair that stands at place 2 + 4 * i
-pub page_pair : (bs : List ℕ) (i : ℕ) → 2 + 4 * i + 4 ≤ length bs → (number_of (get_or bs (2 + 4 * i) 0) (get_or bs (2 + 4 * i + 1) 0), number_of (get_or bs (2 + 4 * i + 2) 0) (get_or bs (2 + 4 * i + 2 + 1) 0)) ≡ get_or (page_pairs bs) i (0, 0)
-page_pair bs i h =
-    let j : ℕ = 4 * i in
-    let b : 2 + (j + 1) ≡ 2 + j + 1 = omega arith in
-    let c : 2 + (j + 2) ≡ 2 + j + 2 = omega arith in
-    let d : 2 + (j + 3) ≡ 2 + j + 2 + 1 = omega arith in
-    sym (pairs_get (drop 2 bs) i j refl (omega (arith, length-drop 2 bs)) ∙
-    (λ t. (number_of (get_or-drop 2 bs j 0 t) ((get_or-drop 2 bs (j + 1) 0 ∙ ap (λ m. get_or bs m 0) b) t), number_of ((get_or-drop 2 bs (j + 2) 0 ∙ ap (λ m. get_or bs m 0) c) t) ((get_or-drop 2 bs (j + 3) 0 ∙ ap (λ m. get_or bs m 0) d) t))))
+-- and so the pairs of the pieces of a page, past its count
+pub page_pieces : (pieces : List (List ℕ)) (rest bs : List ℕ) → rest ≡ drop 2 bs → pieces ≡ first_chunks 4 (length rest / 4) rest → length rest % 4 ≡ 0 → map pair_in pieces ≡ page_pairs bs
+page_pieces pieces rest bs e f h = ap (map pair_in) f ∙ pieces_pairs (length rest / 4) rest (omega arith) ∙ ap pairs_in e
 
 -- the runs of a set come back from its page
 page_runs : (u : Numbers) → Small u → page_pairs (page u) ≡ runs u
@@ -116,6 +100,15 @@ faultless bs e =
     (λ w. absurd (mathlib.Core.Bool.true≢false (ap is_some (sym (cond-false (whole_page bs) _ _ w) ∙ e))))
     (cases_Bool (whole_page bs))
 
+-- a page with as many bytes as its count gives has the first fault of its pairs
+pub whole_fault : (bs : List ℕ) → 2 ≤ length bs → length bs ≡ 2 + 4 * page_count bs → page_fault bs ≡ pair_fault 0 2 (page_pairs bs)
+whole_fault bs le e = cond-true (whole_page bs) _ _ (and_from _ _ (le-leb 2 (length bs) le) (eq-eqb (length bs) (2 + 4 * page_count bs) e))
+
+-- nothing is refused where there is no fault
+pub no_refusal : (o : Option ℕ) → Ok tt ≡ refused_at o → o ≡ None
+no_refusal None e = refl
+no_refusal (Some place) e = cc
+
 -- a faultless page is the page of its numbers
 pub page_back : (bs : List ℕ) → Faultless bs → ((k : ℕ) → get_or bs k 0 < 256) → page (covered (page_pairs bs)) ≡ bs
 page_back bs f h = ap (λ ps. word (length ps) ++ flat_map pair_bytes ps) (runs_covered (page_pairs bs) f.gaps) ∙ whole bs f h
@@ -133,7 +126,7 @@ written_fault : (u : Numbers) → Small u → page_fault (page u) ≡ None
 written_fault u small =
     let long = length_page u in
     let count = written_count u small in
-    cond-true (whole_page (page u)) _ _ (and_from _ _ (le-leb 2 (length (page u)) (omega arith)) (eq-eqb (length (page u)) (2 + 4 * page_count (page u)) (omega arith))) ∙
+    whole_fault (page u) (omega arith) (omega arith) ∙
     ap (pair_fault 0 2) (page_runs u small) ∙ no_fault 0 2 (runs u) (runs_apart u small)
 
 -- the four answers of a loading
@@ -148,17 +141,15 @@ module _ (m : Meaning) (bs : List ℕ) where
   answered : (r : Result (Unit {0}) Refusal) → load_answer m bs ≡ r → Loads r (cond (is_ok r) (loaded m bs) m)
   answered r e = record { answer = sym e; after = sym (load_after_is r e) }
 
-  pub not_blank : (run_count m.used ≡ 0 → ⊥) → Loads (Err NotBlank) m
-  not_blank ne = answered (Err NotBlank) (cond-false (eqb (run_count m.used) 0) _ _ (Rattle.std.proofs.lemmas.Bool.ne_eqb _ 0 ne))
-
   blank : (r : Result (Unit {0}) Refusal) → run_count m.used ≡ 0 → fault_answer m bs (page_fault bs) ≡ r → load_answer m bs ≡ r
   blank r e f = cond-true (eqb (run_count m.used) 0) _ _ (eq-eqb _ 0 e) ∙ f
 
-  pub bad_page : (place : ℕ) → run_count m.used ≡ 0 → page_fault bs ≡ Some place → Loads (Err (BadPage place)) m
-  bad_page place e f = answered (Err (BadPage place)) (blank (Err (BadPage place)) e (ap (fault_answer m bs) f))
-
-  pub too_many_runs : run_count m.used ≡ 0 → page_fault bs ≡ None → m.limit < page_count bs → Loads (Err TooManyRuns) m
-  too_many_runs e f lt = answered (Err TooManyRuns) (blank (Err TooManyRuns) e (ap (fault_answer m bs) f ∙ cond-true (ltb m.limit (page_count bs)) _ _ (lt-ltb _ _ lt)))
+  pub bad_page : (r : Result (Unit {0}) Refusal) (e : Refusal) → run_count m.used ≡ 0 → r ≡ Err e → Err e ≡ refused_at (page_fault bs) → Loads r m
+  bad_page r e none q f = subst (λ x. Loads x m) (sym q) (answered (Err e) (blank (Err e) none (go (page_fault bs) f)))
+    where
+      go : (o : Option ℕ) → Err e ≡ refused_at o → fault_answer m bs o ≡ Err e
+      go None f = cc
+      go (Some place) f = sym f
 
   pub load_granted : run_count m.used ≡ 0 → page_fault bs ≡ None → page_count bs ≤ m.limit → Loads (Ok tt) (loaded m bs)
   load_granted e f le = answered (Ok tt) (blank (Ok tt) e (ap (fault_answer m bs) f ∙ cond-false (ltb m.limit (page_count bs)) _ _ (le-ltb _ _ le)))

@@ -1,23 +1,23 @@
 -- The pairs that a table lists, after a change of the table.
 -- Assumes nothing.
-use Rattle.std.proofs.Common.{◌≡◌, ℕ, zero, suc, ◌+◌, ◌-◌, ◌<◌, ◌≤◌, false, ◌||◌, List, [], ◌∷◌, ◌++◌, map, length, get_or, take, drop, set, sym, refl, ap, ◌∙◌, add-one, arith}
+use Rattle.std.proofs.Common.{◌≡◌, ℕ, zero, suc, ◌+◌, ◌-◌, ◌<◌, ◌≤◌, true, false, ◌||◌, ltb, List, [], ◌∷◌, ◌++◌, map, length, get_or, take, drop, set, sym, refl, ap, ◌∙◌, add-one, arith}
 use borrow.Rule.Slice.PartMut.{mid_of, post_of, put_mid}
-use Rattle.std.proofs.lemmas.List.{append_assoc, map-append, length-map, length-append, length-take, length-take-le, length-drop, get_or-map, get_or-take, map-set, take_more, take_at, drop_at, set_at, take-take, take-map, drop-map, drop-take, drop-drop, at_drop_more, at_drop_all}
+use Rattle.std.proofs.lemmas.List.{append_assoc, map-append, length-map, length-append, length-take, length-take-le, length-drop, get_or-map, get_or-take, map-set, take_more, take_at, drop_at, set_at, take-take, take-map, drop-map, drop-take, drop-drop}
 use Rattle.std.specs.List.{insert, remove}
-use Rattle.register.specs.Runs.{Pair, covered, within}
-use Rattle.register.specs.Spans.{pair_of}
+use Rattle.std.proofs.Math.Seq.{take-set-lt}
+use Rattle.std.proofs.lemmas.Bool.{ltb-true, ltb-false}
+use Rattle.std.proofs.lemmas.List.Sorted.{IsNonDecreasingBy-from_default}
+use Rattle.std.specs.List.{list_any}
+use Rattle.std.specs.List.Sorted.{IsNonDecreasingBy}
+use Rattle.register.specs.Cover.{apart_parts}
+use Rattle.register.specs.Runs.{Pair, apart, covered, within}
+use Rattle.register.specs.Spans.{pair_at, pair_of, pairs_of}
 use Rattle.register.specs.declared.spans.Span.{Span}
 
 abbrev nothing : Span
 nothing = record { first = 0; len = 0 }
 
 module _ {X : Type 0} where
-  take_set_any : (c i : ℕ) (xs : List X) (x : X) → take c (set xs i x) ≡ set (take c xs) i x
-  take_set_any zero i xs x = refl
-  take_set_any (suc c) i [] x = refl
-  take_set_any (suc c) zero (y ∷ xs) x = refl
-  take_set_any (suc c) (suc i) (y ∷ xs) x = ap (λ l. y ∷ l) (take_set_any c i xs x)
-
   -- the last of m + 1 elements, put in front
   rotated : (m : ℕ) (zs : List X) (d : X) → m < length zs → drop m (take (m + 1) zs) ++ take m (take (m + 1) zs) ≡ get_or zs m d ∷ take m zs
   rotated m zs d h =
@@ -70,30 +70,59 @@ map_removed f xs i = map-append f (take i xs) (drop (suc i) xs) ∙ (λ j. sym (
 
 -- the first c of a table, as pairs
 abbrev pub pairs : ℕ → List Span → List Pair
-pairs c tb = map pair_of (take c tb)
+pairs c tb = pairs_of (take c tb)
 
-module _ (tb : List Span) (c : ℕ) (le : c ≤ length tb) where
-  pub pairs_length : length (pairs c tb) ≡ c
-  pairs_length = length-map (take c tb) pair_of ∙ length-take-le c tb le
+-- a place in them is one in the table
+pub pairs_inside : (tb : List Span) (c i : ℕ) → i < length (pairs c tb) → (i < c) × (i < length tb)
+pairs_inside tb c i h = let l : length (pairs c tb) ≡ length (take c tb) = length-map (take c tb) pair_of in (omega (arith, length-take c tb), omega (arith, length-take c tb))
 
-  pub pairs_at : (i : ℕ) → i < c → get_or (pairs c tb) i (0, 0) ≡ pair_of (get_or tb i nothing)
-  pairs_at i h = get_or-map pair_of (take c tb) i nothing (0, 0) (omega (arith, length-take-le c tb le)) ∙ ap pair_of (get_or-take c tb i nothing h)
+pub pairs_at : (tb : List Span) (c i : ℕ) → i < length (pairs c tb) → pair_at (pairs c tb) i ≡ pair_of (get_or tb i nothing)
+pairs_at tb c i h =
+    let l : length (pairs c tb) ≡ length (take c tb) = length-map (take c tb) pair_of in
+    get_or-map pair_of (take c tb) i nothing (0, 0) (omega arith) ∙ ap pair_of (get_or-take c tb i nothing (pairs_inside tb c i h).0)
 
 pub pairs_short : (tb : List Span) (c : ℕ) → length (pairs c tb) ≤ c
 pairs_short tb c = omega (arith, length-map (take c tb) pair_of, length-take c tb)
 
-pub pairs_set : (tb : List Span) (c i : ℕ) (s : Span) → pairs c (set tb i s) ≡ set (pairs c tb) i (pair_of s)
-pairs_set tb c i s = ap (map pair_of) (take_set_any c i tb s) ∙ map-set pair_of (take c tb) i s
+-- the span at i, changed
+pub pairs_set : (tb : List Span) (c i : ℕ) (s : Span) (f : Pair → Pair) → i < length (pairs c tb) → pair_of s ≡ f (pair_of (get_or tb i nothing)) → pairs c (set tb i s) ≡ set (pairs c tb) i (f (pair_at (pairs c tb) i))
+pairs_set tb c i s f h e =
+    ap pairs_of (take-set-lt c tb i s (pairs_inside tb c i h).0) ∙ map-set pair_of (take c tb) i s ∙ ap (set (pairs c tb) i) (e ∙ ap f (sym (pairs_at tb c i h)))
 
 pub pairs_inserted : (tb : List Span) (i c : ℕ) (s : Span) (ys : List Span) → i ≤ c → c < length tb → ys ≡ drop (length (mid_of i (c + 1 - i) tb) - 1) (mid_of i (c + 1 - i) tb) ++ take (length (mid_of i (c + 1 - i) tb) - 1) (mid_of i (c + 1 - i) tb) → pairs (c + 1) (set (put_mid i (c + 1 - i) tb ys) i s) ≡ insert (pairs c tb) i (pair_of s)
-pairs_inserted tb i c s ys le lt e = ap (map pair_of) (inserted_table tb i c s ys le lt e) ∙ map_inserted pair_of (take c tb) i s
+pairs_inserted tb i c s ys le lt e = ap pairs_of (inserted_table tb i c s ys le lt e) ∙ map_inserted pair_of (take c tb) i s
 
 pub pairs_removed : (tb : List Span) (i c : ℕ) (ys : List Span) → i < c → c ≤ length tb → ys ≡ drop 1 (mid_of i (c - i) tb) ++ take 1 (mid_of i (c - i) tb) → pairs (c - 1) (put_mid i (c - i) tb ys) ≡ remove (pairs c tb) i
-pairs_removed tb i c ys lt le e = ap (map pair_of) (removed_table tb i c ys lt le e) ∙ map_removed pair_of (take c tb) i
+pairs_removed tb i c ys lt le e = ap pairs_of (removed_table tb i c ys lt le e) ∙ map_removed pair_of (take c tb) i
 
--- a search through the spans, one further, and past the last
-pub covered_more : (ps : List Pair) (i n : ℕ) → i < length ps → covered (drop i ps) n ≡ (within (get_or ps i (0, 0)) n || covered (drop (i + 1) ps) n)
-covered_more ps i n h = at_drop_more (λ l. covered l n) ps i (0, 0) h
+-- a search through the spans
+pub covered_any : (spans : List Span) (n : ℕ) → list_any (λ s. within (pair_of s) n) spans ≡ covered (pairs_of spans) n
+covered_any [] n = refl
+covered_any (s ∷ spans) n = ap (λ b. within (pair_of s) n || b) (covered_any spans n)
 
-pub covered_done : (ps : List Pair) (i n : ℕ) → length ps ≤ i → covered (drop i ps) n ≡ false
-covered_done ps i n h = at_drop_all (λ l. covered l n) ps i h
+-- sorted by first number
+first_low : (least : ℕ) (spans : List Span) (k : ℕ) → apart least (pairs_of spans) ≡ true → k < length spans → least ≤ (get_or spans k nothing).first
+first_low least [] k h lt = absurd (omega arith)
+first_low least (s ∷ spans) zero h lt = (apart_parts least (pair_of s) (pairs_of spans) h).low
+first_low least (s ∷ spans) (suc k) h lt =
+    let a = apart_parts least (pair_of s) (pairs_of spans) h in
+    omega (arith, first_low (s.first + s.len + 1) spans k a.rest (omega arith), a.low)
+
+rises : (least : ℕ) (spans : List Span) (i j : ℕ) → apart least (pairs_of spans) ≡ true → i ≤ j → j < length spans → (get_or spans i nothing).first ≤ (get_or spans j nothing).first
+rises least [] i j h le lt = absurd (omega arith)
+rises least (s ∷ spans) zero zero h le lt = omega arith
+rises least (s ∷ spans) (suc i) zero h le lt = absurd (omega arith)
+rises least (s ∷ spans) zero (suc j) h le lt =
+    let a = apart_parts least (pair_of s) (pairs_of spans) h in
+    omega (arith, first_low (s.first + s.len + 1) spans j a.rest (omega arith))
+rises least (s ∷ spans) (suc i) (suc j) h le lt = rises (s.first + s.len + 1) spans i j (apart_parts least (pair_of s) (pairs_of spans) h).rest (omega arith) (omega arith)
+
+pub sorted : (spans : List Span) → apart 0 (pairs_of spans) ≡ true → IsNonDecreasingBy (λ s. s.first) spans
+sorted spans h = IsNonDecreasingBy-from_default (λ s. s.first) spans nothing (λ i j le lt. rises 0 spans i j h le lt)
+
+-- what a test of a span's first number tells of its pair
+pub pairs_earlier : (spans : List Span) (n k : ℕ) → k < length spans → ((d : Span) → ltb (get_or spans k d).first n ≡ true) → (pair_at (pairs_of spans) k).0 < n
+pairs_earlier spans n k lt h = omega (arith, ap (λ p. p.0) (get_or-map pair_of spans k nothing (0, 0) lt), ltb-true _ _ (h nothing))
+
+pub pairs_later : (spans : List Span) (n k : ℕ) → k < length spans → ((d : Span) → ltb (get_or spans k d).first n ≡ false) → n ≤ (pair_at (pairs_of spans) k).0
+pairs_later spans n k lt h = omega (arith, ap (λ p. p.0) (get_or-map pair_of spans k nothing (0, 0) lt), ltb-false _ _ (h nothing))

@@ -1,18 +1,19 @@
 -- What a mark does to a register of spans, by whether the number touches one.
 -- Assumes nothing.
-use Rattle.std.proofs.Common.{◌≡◌, ℕ, ◌+◌, ◌-◌, ◌<◌, ◌≤◌, Bool, true, false, ◌&&◌, eqb, ltb, List, length, get_or, set, Ok, Err, sym, ap, ◌∙◌, subst, arith}
+use Rattle.std.proofs.Common.{◌≡◌, ℕ, ◌+◌, ◌-◌, ◌<◌, ◌≤◌, true, false, ◌&&◌, eqb, ltb, List, length, set, Ok, Err, sym, ap, ◌∙◌, subst, arith}
 use mathlib.Core.Path.{fun_ext}
 use Rattle.refusal.specs.declared.Refusal.TheVariants.{TooManyRuns}
-use Rattle.std.proofs.lemmas.List.Edits.{length-insert, length-remove}
-use Rattle.std.proofs.lemmas.List.{length-set}
+use Rattle.std.proofs.lemmas.List.Edits.{length-insert}
 use Rattle.std.proofs.lemmas.Bool.{and_parts, and_from, ltb-true, lt-ltb, eqb-true, eq-eqb, false≢true}
 use Rattle.std.specs.List.{insert, remove}
 use Rattle.register.specs.Runs.{Meaning, Pair, run_count, with_number, covered, apart}
-use Rattle.register.specs.Spans.{listed, span_meaning}
+use Rattle.register.specs.Marked.{mark_answer, mark_after}
+use Rattle.register.specs.Spans.{advanced, lengthened, listed, pair_at, span_meaning, touches_at, touches_before}
 use Rattle.register.specs.declared.spans.Spans.{Spans}
 use Rattle.register.proofs.Changes.{Adds, Place, apart_at, adds_left, adds_right, adds_lone, adds_between}
 use Rattle.register.specs.Cover.{runs_covered}
 use Rattle.register.proofs.Marking.{Marks, granted, too_many}
+use Rattle.register.proofs.Tables.{pairs_short}
 
 both_yes : (i c a b : ℕ) → true ≡ (ltb i c && eqb a b) → (i < c) × (a ≡ b)
 both_yes i c a b h = let p = and_parts (ltb i c) (eqb a b) (sym h) in (ltb-true i c p.0, eqb-true a b p.1)
@@ -40,95 +41,72 @@ module _ (ps qs : List Pair) (n : ℕ) (adds : Adds 0 ps n qs) (small : n < 4096
   refused_by lt = too_many (keeps ps) n small out (omega (arith, count))
 
 -- the pairs after a number joins two, lengthens the one before it, lets the one after it begin earlier, or stands alone
-abbrev pub pair_at : List Pair → ℕ → Pair
-pair_at ps i = get_or ps i (0, 0)
-
 abbrev pub joined_at : List Pair → ℕ → List Pair
-joined_at ps i = remove (set ps (i - 1) ((pair_at ps (i - 1)).0, (pair_at ps (i - 1)).1 + ((pair_at ps (i - 1 + 1)).1 + 1))) (i - 1 + 1)
+joined_at ps i = remove (set ps (i - 1) (lengthened (pair_at ps (i - 1)) ((pair_at ps (i - 1 + 1)).1 + 1))) (i - 1 + 1)
 
 abbrev pub longer_at : List Pair → ℕ → List Pair
-longer_at ps i = set ps (i - 1) ((pair_at ps (i - 1)).0, (pair_at ps (i - 1)).1 + 1)
+longer_at ps i = set ps (i - 1) (lengthened (pair_at ps (i - 1)) 1)
 
 abbrev pub earlier_at : List Pair → ℕ → List Pair
-earlier_at ps i = set ps i ((pair_at ps i).0 - 1, (pair_at ps i).1 + 1)
+earlier_at ps i = set ps i (advanced (pair_at ps i))
 
--- what the register's invariant asks of a table
-abbrev pub Sound : Spans → Type 0
-Sound s = (s.count ≤ 64) × ((length (listed s) ≡ s.count) × ((apart 0 (listed s) ≡ true) × Unit {0}))
+-- the spans s list the pairs ps and n: they are in order, and the mark of n is granted
+pub record Taken (ps : List Pair) (n : ℕ) (s : Spans) : Type 0 where
+  pub ordered : apart 0 (listed s) ≡ true
+  pub answer : Ok tt ≡ mark_answer (keeps ps) n
+  pub after : span_meaning s ≡ mark_after (keeps ps) n
 
-module _ (ps qs : List Pair) (n : ℕ) (adds : Adds 0 ps n qs) (s : Spans) (is : listed s ≡ qs) (size : length qs ≡ s.count) (few : s.count ≤ 64) where
-  pub stays_sound : Sound s
-  stays_sound = (few, (ap length is ∙ size, (subst (λ l. apart 0 l ≡ true) (sym is) adds.gaps, tt)))
+module _ (ps : List Pair) (n i : ℕ) (at : Place ps n i) (out : covered ps n ≡ false) where
+  taken : (qs : List Pair) → Adds 0 ps n qs → (s : Spans) → listed s ≡ qs → s.count ≤ 64 → Taken ps n s
+  taken qs adds s is few =
+      let m = granted_by ps qs n adds at.small out (omega (arith, ap length is, pairs_short s.table s.count)) in
+      record {
+        ordered = subst (λ l. apart 0 l ≡ true) (sym is) adds.gaps;
+        answer = m.answer;
+        after = ap keeps is ∙ m.after;
+      }
 
-  pub granted_at : n < 4096 → covered ps n ≡ false → Marks (keeps ps) n (Ok tt) (span_meaning s)
-  granted_at small out = subst (λ l. Marks (keeps ps) n (Ok tt) (keeps l)) (sym is) (granted_by ps qs n adds small out (omega arith))
+  at_yes : true ≡ touches_at ps i n → (i < length ps) × ((pair_at ps i).0 ≡ n + 1)
+  at_yes h = both_yes i (length ps) (pair_at ps i).0 (n + 1) h
 
--- the two tests that a mark makes at the place i
-abbrev touches_before : List Pair → ℕ → ℕ → Bool
-touches_before ps n i = ltb 0 i && eqb ((pair_at ps (i - 1)).0 + (pair_at ps (i - 1)).1) n
+  at_no : false ≡ touches_at ps i n → i < length ps → (pair_at ps i).0 ≡ n + 1 → ⊥
+  at_no h = both_no i (length ps) (pair_at ps i).0 (n + 1) h
 
-abbrev touches_at : List Pair → ℕ → ℕ → ℕ → Bool
-touches_at ps c n i = ltb i c && eqb (pair_at ps i).0 (n + 1)
-
-module _ (ps : List Pair) (c n i : ℕ) (size : length ps ≡ c) where
-  at_yes : true ≡ touches_at ps c n i → (i < length ps) × ((pair_at ps i).0 ≡ n + 1)
-  at_yes h = let b = both_yes i c (pair_at ps i).0 (n + 1) h in (omega arith, b.1)
-
-  at_no : false ≡ touches_at ps c n i → i < length ps → (pair_at ps i).0 ≡ n + 1 → ⊥
-  at_no h lt e = both_no i c (pair_at ps i).0 (n + 1) h (omega arith) e
-
-  before_yes : true ≡ touches_before ps n i → (0 < i) × ((pair_at ps (i - 1)).0 + (pair_at ps (i - 1)).1 ≡ n)
+  before_yes : true ≡ touches_before ps i n → (0 < i) × ((pair_at ps (i - 1)).0 + (pair_at ps (i - 1)).1 ≡ n)
   before_yes h = both_yes 0 i _ n h
 
-  before_no : false ≡ touches_before ps n i → 0 < i → (pair_at ps (i - 1)).0 + (pair_at ps (i - 1)).1 ≡ n → ⊥
+  before_no : false ≡ touches_before ps i n → 0 < i → (pair_at ps (i - 1)).0 + (pair_at ps (i - 1)).1 ≡ n → ⊥
   before_no h = both_no 0 i _ n h
 
-  pub joins : Place ps n i → true ≡ touches_before ps n i → true ≡ touches_at ps c n i → Adds 0 ps n (joined_at ps i)
-  joins at h k = adds_between ps n i at (before_yes h).0 (before_yes h).1 (at_yes k).0 (at_yes k).1
+  -- it touches both
+  pub joined : true ≡ touches_before ps i n → true ≡ touches_at ps i n → (s : Spans) → listed s ≡ joined_at ps i → s.count ≤ 64 → Taken ps n s
+  joined h k = taken (joined_at ps i) (adds_between ps n i at (before_yes h).0 (before_yes h).1 (at_yes k).0 (at_yes k).1)
 
-  pub joined_size : true ≡ touches_before ps n i → true ≡ touches_at ps c n i → length (joined_at ps i) + 1 ≡ c
-  joined_size h k =
-      let a = before_yes h in
-      let b = at_yes k in
-      let same = length-set ps (i - 1) ((pair_at ps (i - 1)).0, (pair_at ps (i - 1)).1 + ((pair_at ps (i - 1 + 1)).1 + 1)) in
-      length-remove _ (i - 1 + 1) (omega arith) ∙ same ∙ size
-
-  -- what joining asks of the two pairs
-  pub joins_fit : apart 0 ps ≡ true → true ≡ touches_before ps n i → true ≡ touches_at ps c n i → (i - 1 + 1 < c) × ((pair_at ps (i - 1)).1 + ((pair_at ps (i - 1 + 1)).1 + 1) < 65536)
-  joins_fit gaps h k =
+  pub joined_short : true ≡ touches_before ps i n → true ≡ touches_at ps i n → (pair_at ps (i - 1)).1 + ((pair_at ps (i - 1 + 1)).1 + 1) < 65536
+  joined_short h k =
       let t = before_yes h in
       let s = at_yes k in
-      let a = apart_at 0 ps (i - 1) gaps (omega arith) in
-      let b = apart_at 0 ps (i - 1 + 1) gaps (omega arith) in
-      (omega arith, omega arith)
+      let a = apart_at 0 ps (i - 1) at.gaps (omega arith) in
+      let b = apart_at 0 ps (i - 1 + 1) at.gaps (omega arith) in
+      omega arith
 
-  pub lengthens : Place ps n i → true ≡ touches_before ps n i → false ≡ touches_at ps c n i → Adds 0 ps n (longer_at ps i)
-  lengthens at h k = adds_left ps n i at (before_yes h).0 (before_yes h).1 (at_no k)
+  -- it touches the one before
+  pub longer : true ≡ touches_before ps i n → false ≡ touches_at ps i n → (s : Spans) → listed s ≡ longer_at ps i → s.count ≤ 64 → Taken ps n s
+  longer h k = taken (longer_at ps i) (adds_left ps n i at (before_yes h).0 (before_yes h).1 (at_no k))
 
-  pub longer_size : length (longer_at ps i) ≡ c
-  longer_size = length-set ps (i - 1) _ ∙ size
+  -- it touches the one after
+  pub earlier : false ≡ touches_before ps i n → true ≡ touches_at ps i n → (s : Spans) → listed s ≡ earlier_at ps i → s.count ≤ 64 → Taken ps n s
+  earlier h k = taken (earlier_at ps i) (adds_right ps n i at (before_no h) (at_yes k).0 (at_yes k).1)
 
-  pub lengthens_fit : apart 0 ps ≡ true → Place ps n i → true ≡ touches_before ps n i → (i - 1 < c) × ((pair_at ps (i - 1)).1 + 1 < 65536)
-  lengthens_fit gaps at h =
-      let t = before_yes h in
-      let le = at.bound in
-      let a = apart_at 0 ps (i - 1) gaps (omega arith) in
-      (omega arith, omega arith)
-
-  pub advances : Place ps n i → false ≡ touches_before ps n i → true ≡ touches_at ps c n i → Adds 0 ps n (earlier_at ps i)
-  advances at h k = adds_right ps n i at (before_no h) (at_yes k).0 (at_yes k).1
-
-  pub earlier_size : length (earlier_at ps i) ≡ c
-  earlier_size = length-set ps i _ ∙ size
-
-  pub advances_fit : apart 0 ps ≡ true → true ≡ touches_at ps c n i → (i < c) × (0 < (pair_at ps i).0) × ((pair_at ps i).1 + 1 < 65536)
-  advances_fit gaps k =
+  pub earlier_short : true ≡ touches_at ps i n → (pair_at ps i).1 + 1 < 65536
+  earlier_short k =
       let s = at_yes k in
-      let a = apart_at 0 ps i gaps s.0 in
-      (omega arith, omega arith, omega arith)
+      let a = apart_at 0 ps i at.gaps s.0 in
+      omega arith
 
-  pub stands : Place ps n i → false ≡ touches_before ps n i → false ≡ touches_at ps c n i → Adds 0 ps n (insert ps i (n, 1))
-  stands at h k = adds_lone ps n i at (before_no h) (at_no k)
+  -- it touches none
+  pub alone : false ≡ touches_before ps i n → false ≡ touches_at ps i n → (s : Spans) → listed s ≡ insert ps i (n, 1) → s.count ≤ 64 → Taken ps n s
+  alone h k = taken (insert ps i (n, 1)) (adds_lone ps n i at (before_no h) (at_no k))
 
-  pub stands_size : Place ps n i → length (insert ps i (n, 1)) ≡ c + 1
-  stands_size at = length-insert ps i (n, 1) at.bound ∙ omega arith
+  pub full : false ≡ touches_before ps i n → false ≡ touches_at ps i n → length ps ≡ 64 → Marks (keeps ps) n (Err TooManyRuns) (keeps ps)
+  full h k size = refused_by ps _ n (adds_lone ps n i at (before_no h) (at_no k)) at.small out (omega (arith, length-insert ps i (n, 1) at.bound))

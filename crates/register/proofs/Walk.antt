@@ -49,24 +49,10 @@ module _ (u : Numbers) where
   pub next_step : (n : ℕ) (p : Pair) → Some p ≡ next_run u n → Step u n p
   next_step n p e = step_by 4096 n p (omega arith) e
 
-  pub next_stop : (n : ℕ) → None ≡ next_run u n → runs_from u n ≡ []
-  next_stop n e = go (runs_from u n) e
-    where
-      go : (ps : List Pair) → None ≡ first_pair ps → ps ≡ []
-      go [] e = refl
-      go (p ∷ ps) e = absurd (mathlib.Core.Bool.false≢true (ap is_some e))
-
 -- whether there is a next run from 0 on tells whether there is one at all
-runs_some : (ps : List Pair) → true ≡ is_some (first_pair ps) → length ps ≡ 0 → ⊥
-runs_some [] h e = mathlib.Core.Bool.true≢false h
-runs_some (p ∷ ps) h e = omega arith
-
 runs_none : (ps : List Pair) → false ≡ is_some (first_pair ps) → length ps ≡ 0
 runs_none [] h = refl
 runs_none (p ∷ ps) h = absurd (mathlib.Core.Bool.false≢true h)
-
-pub has_runs : (u : Numbers) → true ≡ is_some (next_run u 0) → run_count u ≡ 0 → ⊥
-has_runs u = runs_some (runs_from u 0)
 
 pub has_none : (u : Numbers) → false ≡ is_some (next_run u 0) → run_count u ≡ 0
 has_none u = runs_none (runs_from u 0)

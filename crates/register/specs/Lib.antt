@@ -1,4 +1,5 @@
 pub mod Chart
+pub mod LawfulRegisters
 pub mod Marked
 pub mod Page
 pub mod Runs

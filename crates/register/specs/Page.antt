@@ -1,6 +1,6 @@
 -- The number page of a set, what writing and loading one answer, and the laws that tie them.
 -- Assumes nothing.
-use Rattle.std.specs.Prelude.{◌≡◌, ℕ, ◌+◌, ◌*◌, ◌/◌, ◌%◌, ◌≤◌, Bool, true, false, cond, ◌&&◌, List, [], ◌∷◌, ◌++◌, length, drop, is_ok, Some, None, Ok, Err, Option, Result, ◌==◌, nat_le, nat_lt, slice_index}
+use Rattle.std.specs.Prelude.{◌≡◌, ℕ, ◌+◌, ◌*◌, ◌/◌, ◌%◌, ◌≤◌, Bool, true, false, if◌then◌else◌, ◌&&◌, List, [], ◌∷◌, ◌++◌, length, drop, is_ok, Some, None, Ok, Err, Option, Result, ◌==◌, nat_le, nat_lt, slice_index}
 use Rattle.refusal.specs.declared.Refusal.{Refusal}
 use Rattle.refusal.specs.declared.Refusal.TheVariants.{BufferTooShort, TooManyRuns, BadPage, NotBlank}
 use Rattle.std.specs.List.{flat_map}
@@ -19,10 +19,10 @@ page u = word (run_count u) ++ flat_map pair_bytes (runs u)
 
 -- writing: a buffer that is too short is refused, and left; bytes past the page are left
 abbrev pub write_answer : Numbers → List ℕ → Result ℕ Refusal
-write_answer u out = cond (nat_lt (length out) (length (page u))) (Err BufferTooShort) (Ok (length (page u)))
+write_answer u out = if nat_lt (length out) (length (page u)) then Err BufferTooShort else Ok (length (page u))
 
 abbrev pub write_after : Numbers → List ℕ → List ℕ
-write_after u out = cond (nat_lt (length out) (length (page u))) out (page u ++ drop (length (page u)) out)
+write_after u out = if nat_lt (length out) (length (page u)) then out else page u ++ drop (length (page u)) out
 
 -- the number of two bytes
 abbrev pub number_of : ℕ → ℕ → ℕ
@@ -35,6 +35,10 @@ pairs_in (a ∷ []) = []
 pairs_in (a ∷ b ∷ []) = []
 pairs_in (a ∷ b ∷ c ∷ []) = []
 pairs_in (a ∷ b ∷ c ∷ d ∷ bs) = (number_of a b, number_of c d) ∷ pairs_in bs
+
+-- the pair that four bytes are
+abbrev pub pair_in : List ℕ → Pair
+pair_in bs = (number_of (slice_index bs 0) (slice_index bs 1), number_of (slice_index bs 2) (slice_index bs 3))
 
 -- the count that a page gives, and its pairs
 abbrev pub page_count : List ℕ → ℕ
@@ -50,11 +54,16 @@ whole_page bs = nat_le 2 (length bs) && length bs == 2 + 4 * page_count bs
 -- the place of the first pair that is empty, ends above 4,096, or begins before `least`, which leaves a gap after the pair before
 abbrev pub pair_fault : ℕ → ℕ → List Pair → Option ℕ
 pair_fault least place [] = None
-pair_fault least place (p ∷ ps) = cond (fits least p) (pair_fault (p.0 + p.1 + 1) (place + 4) ps) (Some place)
+pair_fault least place (p ∷ ps) = if fits least p then pair_fault (p.0 + p.1 + 1) (place + 4) ps else Some place
 
 -- the place of the page's first fault
 abbrev pub page_fault : List ℕ → Option ℕ
-page_fault bs = cond (whole_page bs) (pair_fault 0 2 (page_pairs bs)) (Some 0)
+page_fault bs = if whole_page bs then pair_fault 0 2 (page_pairs bs) else Some 0
+
+-- the answer that a fault's place gives
+abbrev pub refused_at : Option ℕ → Result (Unit {0}) Refusal
+refused_at None = Ok tt
+refused_at (Some place) = Err (BadPage place)
 
 -- what a page with no fault is
 pub record Faultless (bs : List ℕ) : Type 0 where
@@ -65,10 +74,10 @@ pub record Faultless (bs : List ℕ) : Type 0 where
 -- loading: refuses a register that is not blank, then a faulty page, then one with more runs than the register keeps
 abbrev pub fault_answer : Meaning → List ℕ → Option ℕ → Result (Unit {0}) Refusal
 fault_answer m bs (Some place) = Err (BadPage place)
-fault_answer m bs None = cond (nat_lt m.limit (page_count bs)) (Err TooManyRuns) (Ok tt)
+fault_answer m bs None = if nat_lt m.limit (page_count bs) then Err TooManyRuns else Ok tt
 
 abbrev pub load_answer : Meaning → List ℕ → Result (Unit {0}) Refusal
-load_answer m bs = cond (run_count m.used == 0) (fault_answer m bs (page_fault bs)) (Err NotBlank)
+load_answer m bs = if run_count m.used == 0 then fault_answer m bs (page_fault bs) else Err NotBlank
 
 -- a register with the numbers of the pairs
 abbrev pub with_pairs : Meaning → List Pair → Meaning
@@ -79,7 +88,7 @@ abbrev pub loaded : Meaning → List ℕ → Meaning
 loaded m bs = with_pairs m (page_pairs bs)
 
 abbrev pub load_after : Meaning → List ℕ → Meaning
-load_after m bs = cond (is_ok (load_answer m bs)) (loaded m bs) m
+load_after m bs = if is_ok (load_answer m bs) then loaded m bs else m
 
 -- two pages are equal exactly when the two sets are
 abbrev pub PagesTellSets : Type 0

@@ -1,6 +1,6 @@
 -- Used numbers and their runs, and what a register means.
 -- Assumes nothing.
-use Rattle.std.specs.Prelude.{◌≡◌, ℕ, zero, suc, ◌+◌, ◌-◌, ◌<◌, ◌≤◌, Bool, true, false, not, ◌&&◌, ◌||◌, List, [], ◌∷◌, length, Some, None, Option, ◌==◌, nat_le, nat_lt}
+use Rattle.std.specs.Prelude.{◌≡◌, ℕ, zero, suc, ◌+◌, ◌-◌, ◌<◌, ◌≤◌, Bool, true, false, not, ◌&&◌, ◌||◌, List, [], ◌∷◌, length, Some, None, Option, ◌==◌, if◌then◌else◌, nat_le, nat_lt}
 
 -- a set of numbers, as the test that answers which numbers are in it
 abbrev pub Numbers : Type 0
@@ -19,6 +19,11 @@ pub record Meaning : Type 0 where
   pub used : Numbers
   pub limit : ℕ
 
+-- what every register keeps to: its numbers are below 4,096, and it keeps 64 runs at least
+pub record Lawful (m : Meaning) : Type 0 where
+  pub small : Small m.used
+  pub roomy : 64 ≤ m.limit
+
 -- a register with nothing used
 abbrev pub blank_register : ℕ → Meaning
 blank_register limit = record { used = λ n. false; limit = limit }
@@ -30,12 +35,12 @@ begins u n = u n && (n == 0 || not (u (n - 1)))
 -- how many of the k numbers from n on are used before the first that is not
 unfoldable pub stretch : Numbers → ℕ → ℕ → ℕ
 stretch u zero n = 0
-stretch u (suc k) n = elim (u n) [ true ↦ suc (stretch u k (n + 1)) | false ↦ 0 ]
+stretch u (suc k) n = if u n then suc (stretch u k (n + 1)) else 0
 
 -- the runs that begin at one of the k numbers from n on, by first number
 unfoldable pub begun : Numbers → ℕ → ℕ → List Pair
 begun u zero n = []
-begun u (suc k) n = elim (begins u n) [ true ↦ (n, stretch u (suc k) n) ∷ begun u k (n + 1) | false ↦ begun u k (n + 1) ]
+begun u (suc k) n = if begins u n then (n, stretch u (suc k) n) ∷ begun u k (n + 1) else begun u k (n + 1)
 
 -- the runs that begin at n or later, by first number
 unfoldable pub runs_from : Numbers → ℕ → List Pair

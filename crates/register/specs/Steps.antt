@@ -1,21 +1,21 @@
 -- One step of `stretch` and of `runs_from`, and what follows by going on.
 -- Assumes nothing.
-use Rattle.std.specs.Prelude.{◌≡◌, ℕ, zero, suc, ◌+◌, ◌-◌, ◌<◌, ◌≤◌, true, false, List, [], ◌∷◌}
+use Rattle.std.specs.Prelude.{◌≡◌, ℕ, zero, suc, ◌+◌, ◌-◌, ◌<◌, ◌≤◌, true, false, [], ◌∷◌}
 use Rattle.std.proofs.Common.{⊎_elim, sym, ◌∙◌, add-zero}
 use Rattle.std.proofs.Math.Path.{refl, ap, subst}
 use native.Mathlib.Omega.{arith}
-use Rattle.std.proofs.lemmas.Bool.{cases_Bool, cases_lt}
-use Rattle.register.specs.Runs.{Numbers, Pair, begins, stretch, begun, runs_from}
+use Rattle.std.proofs.lemmas.Bool.{cases_Bool, cases_lt, cond-true, cond-false}
+use Rattle.register.specs.Runs.{Numbers, begins, stretch, begun, runs_from}
 
 module _ (u : Numbers) where
   pub stretch_yes : (k n : ℕ) → u n ≡ true → stretch u (suc k) n ≡ suc (stretch u k (n + 1))
   unfolding stretch
-  stretch_yes k n e = subst (λ b. (elim b as (λ _. ℕ) [ true ↦ suc (stretch u k (n + 1)) | false ↦ 0 ]) ≡ suc (stretch u k (n + 1))) (sym e) refl
+  stretch_yes k n e = cond-true (u n) _ _ e
 
   pub stretch_no : (k n : ℕ) → u n ≡ false → stretch u k n ≡ 0
   unfolding stretch
   stretch_no zero n e = refl
-  stretch_no (suc k) n e = subst (λ b. (elim b as (λ _. ℕ) [ true ↦ suc (stretch u k (n + 1)) | false ↦ 0 ]) ≡ 0) (sym e) refl
+  stretch_no (suc k) n e = cond-false (u n) _ _ e
 
   pub stretch_none : (n : ℕ) → stretch u 0 n ≡ 0
   unfolding stretch
@@ -23,11 +23,11 @@ module _ (u : Numbers) where
 
   begun_yes : (k n : ℕ) → begins u n ≡ true → begun u (suc k) n ≡ (n, stretch u (suc k) n) ∷ begun u k (n + 1)
   unfolding begun
-  begun_yes k n e = subst (λ b. (elim b as (λ _. List Pair) [ true ↦ (n, stretch u (suc k) n) ∷ begun u k (n + 1) | false ↦ begun u k (n + 1) ]) ≡ (n, stretch u (suc k) n) ∷ begun u k (n + 1)) (sym e) refl
+  begun_yes k n e = cond-true (begins u n) _ _ e
 
   begun_no : (k n : ℕ) → begins u n ≡ false → begun u (suc k) n ≡ begun u k (n + 1)
   unfolding begun
-  begun_no k n e = subst (λ b. (elim b as (λ _. List Pair) [ true ↦ (n, stretch u (suc k) n) ∷ begun u k (n + 1) | false ↦ begun u k (n + 1) ]) ≡ begun u k (n + 1)) (sym e) refl
+  begun_no k n e = cond-false (begins u n) _ _ e
 
   begun_none : (n : ℕ) → begun u 0 n ≡ []
   unfolding begun

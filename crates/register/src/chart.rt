@@ -1,14 +1,11 @@
 //! The chart register: one bit a number.
-ghost use Rattle.std.specs.Prelude.{◌≡◌, ◌-◌, ◌<◌};
+ghost use Rattle.std.specs.Prelude.{◌≡◌, ◌-◌, ◌≤◌};
 ghost use Rattle.register.specs.Chart.{charted, chart_meaning};
+ghost use Rattle.register.specs.LawfulRegisters.{chart_lawful};
 ghost use Rattle.register.specs.Runs.{begins, blank_register, stretch, AtMost2048Runs};
-ghost use Rattle.std.proofs.Common.{rules};
 
-use crate::{NUMBERS, Register};
+use crate::{NUMBERS, Register, check_new};
 use refusal::Refusal;
-
-/// No set of numbers has more runs.
-const LIMIT: u16 = 2048;
 
 /// Number `n` is bit `n % 64` of word `n / 64`.
 #[derive(Drop)]
@@ -17,6 +14,9 @@ pub struct ChartRegister {
 }
 
 impl ChartRegister {
+    /// No set of numbers has more runs.
+    const LIMIT: u16 = 2048;
+
     /// A blank register. Its limit of 2,048 runs refuses nothing, since no set has more.
     pub fn new() -> ChartRegister
         ensures blank { chart_meaning result.words ≡ blank_register 2048 }
@@ -29,7 +29,7 @@ impl ChartRegister {
     fn holds(&self, n: u16) -> bool
         ensures { result ≡ charted self.now.words n }
     {
-        n < NUMBERS && self.words[(n / 64) as usize] >> (n % 64) & 1 == 1
+        n < NUMBERS && self.words[usize::from(n / 64)] >> (n % 64) & 1 == 1
     }
 
     /// Whether a run begins at `n`.
@@ -41,12 +41,12 @@ impl ChartRegister {
 
     /// How many used numbers follow one another from `first` on.
     fn stretch(&self, first: u16) -> u16
+        requires { first ≤ 4096 }
         ensures { result ≡ stretch (charted self.now.words) (4096 - first) first }
     {
-        let mut end = first;
-        while end < NUMBERS && self.holds(end) {
-            end += 1;
-        }
+        let end = (first..NUMBERS)
+            .find(|n| !self.holds(*n))
+            .unwrap_or(NUMBERS);
         end - first
     }
 }
@@ -54,35 +54,24 @@ impl ChartRegister {
 impl Register for ChartRegister {
     ghost meaning = { λ s. chart_meaning s.words };
 
-    ghost below = { Prim.search rules };
-
-    ghost roomy = { Prim.search rules };
+    ghost lawful = { λ s. chart_lawful s.words };
 
     fn ask(&self, n: u16) -> bool {
         self.holds(n)
     }
 
     fn mark(&mut self, n: u16) -> Result<(), Refusal> {
-        if n >= NUMBERS {
-            return Err(Refusal::NumberTooLarge);
-        }
-        if self.holds(n) {
-            return Err(Refusal::NumberUsed);
-        }
-        self.words[(n / 64) as usize] |= 1 << (n % 64);
+        check_new(n, self.holds(n))?;
+        self.words[usize::from(n / 64)] |= 1 << (n % 64);
         Ok(())
     }
 
     fn next_run(&self, n: u16) -> Option<(u16, u16)> {
-        for first in n..NUMBERS {
-            if self.begins(first) {
-                return Some((first, self.stretch(first)));
-            }
-        }
-        None
+        let first = (n..NUMBERS).find(|first| self.begins(*first))?;
+        Some((first, self.stretch(first)))
     }
 
     fn limit(&self) -> u16 {
-        LIMIT
+        Self::LIMIT
     }
 }

@@ -1,9 +1,10 @@
 //! Which card numbers, 0 to 4,095, are used: two registers behind one trait, and the number page.
 #![tactic(auto)]
 
-ghost use Rattle.std.specs.Prelude.{◌≡◌, ℕ, ◌<◌, ◌≤◌, true};
+ghost use Rattle.std.specs.Prelude.{◌≡◌, ◌<◌, false, if◌then◌else◌, nat_lt, Ok, Err, OnOk};
+ghost use Rattle.refusal.specs.declared.Refusal.TheVariants.{NumberTooLarge, NumberUsed};
 ghost use Rattle.register.specs.Marked.{mark_answer, mark_after};
-ghost use Rattle.register.specs.Runs.{FirstRun, Meaning, next_run};
+ghost use Rattle.register.specs.Runs.{FirstRun, Lawful, Meaning, next_run};
 
 use refusal::Refusal;
 
@@ -19,6 +20,21 @@ pub use span::SpanRegister;
 
 /// Numbers are below this.
 pub const NUMBERS: u16 = 4096;
+
+/// Refuses a number above 4,095, and then one that is used.
+fn check_new(n: u16, used: bool) -> Result<(), Refusal>
+    ensures answer { result ≡ (if nat_lt 4095 n then Err NumberTooLarge else if used then Err NumberUsed else Ok tt) }
+    ensures small { OnOk result (n < 4096) }
+    ensures new { OnOk result (used ≡ false) }
+{
+    if n >= NUMBERS {
+        return Err(Refusal::NumberTooLarge);
+    }
+    if used {
+        return Err(Refusal::NumberUsed);
+    }
+    Ok(())
+}
 
 /// Keeps which numbers are used. A run is a longest unbroken stretch of used numbers.
 pub trait Register {
@@ -42,7 +58,5 @@ pub trait Register {
     fn limit(&self) -> u16
         ensures { result ≡ (meaning self.now).limit };
 
-    ghost below: { (s : Self) (n : ℕ) → (meaning s).used n ≡ true → n < 4096 };
-
-    ghost roomy: { (s : Self) → 64 ≤ (meaning s).limit };
+    ghost lawful: { (s : Self) → Lawful (meaning s) };
 }

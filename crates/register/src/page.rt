@@ -2,15 +2,20 @@
 //!
 //! The count of runs in 2 bytes, then for each run its first number and its length, 2 bytes each,
 //! sorted by first number; every number low byte first.
-ghost use Rattle.std.specs.Prelude.{◌≡◌, ◌+◌, ◌*◌, ◌<◌, ◌≤◌, [], ◌++◌, length, take, drop, Ok, slice_index, slice_index_or};
+ghost use Rattle.std.specs.Prelude.{◌≡◌, ◌+◌, ◌*◌, ◌<◌, length, map, true, IfErr, IfOk, None, Ok, OnOk};
 ghost use Rattle.std.specs.List.{flat_map};
-ghost use Rattle.register.specs.Page.{word, pair_bytes, page as page_of, write_answer, write_after, number_of, page_count, page_pairs, pair_fault, page_fault, Faultless, with_pairs, load_answer, load_after, PagesTellSets, WrittenPagesLoad, BlankIsEmpty};
-ghost use Rattle.register.specs.Runs.{runs, run_count, covered, fits};
+ghost use Rattle.register.specs.Marked.{marks_answer, marks_after, numbers_of};
+ghost use Rattle.register.specs.Page.{pair_bytes, page, write_answer, write_after, pair_in, page_count, page_pairs, pair_fault, page_fault, refused_at, load_answer, load_after, PagesTellSets, WrittenPagesLoad, BlankIsEmpty};
+ghost use Rattle.register.specs.Runs.{runs, run_count, apart};
+ghost use Rattle.register.specs.Spans.{pair_of};
 
-use crate::{NUMBERS, Register};
+use crate::Register;
+use crate::spans::Span;
 use refusal::Refusal;
 
 /// How many runs the register has.
+// Counting and writing both walk the runs: of a walk that lent each run to a closure, a caller would
+// not know what the closure wrote.
 fn count_runs<R: Register>(register: &R) -> u16
     ensures { result ≡ run_count (R.meaning register.now).used }
 {
@@ -23,157 +28,114 @@ fn count_runs<R: Register>(register: &R) -> u16
     count
 }
 
-/// Writes a number at a place.
-fn put_word(out: &mut [u8], place: usize, n: u16)
-    requires { place + 2 ≤ length out.old }
-    ensures { out.new ≡ take place out.old ++ (word n ++ drop (place + 2) out.old) }
-{
-    let bytes = n.to_le_bytes();
-    out[place..place + 2].copy_from_slice(&bytes);
-}
-
-/// Writes a run at a place.
-fn put_run(out: &mut [u8], place: usize, first: u16, len: u16)
-    requires { place + 4 ≤ length out.old }
-    ensures { out.new ≡ take place out.old ++ (pair_bytes (first, len) ++ drop (place + 4) out.old) }
-{
-    put_word(out, place, first);
-    put_word(out, place + 2, len);
-}
-
-/// Writes the register's runs behind the first two bytes.
+/// Writes the register's runs, which fill the buffer.
 fn put_runs<R: Register>(register: &R, out: &mut [u8])
-    requires { 2 + 4 * run_count (R.meaning register.now).used ≤ length out.old }
-    ensures { out.new ≡ take 2 out.old ++ (flat_map pair_bytes (runs (R.meaning register.now).used) ++ drop (2 + 4 * run_count (R.meaning register.now).used) out.old) }
+    requires { length out.old ≡ 4 * run_count (R.meaning register.now).used }
+    ensures { out.new ≡ flat_map pair_bytes (runs (R.meaning register.now).used) }
 {
-    let mut place = 2;
+    // The place is counted: of a part of the buffer that moved along with the loop, nothing would be
+    // known after it.
+    let mut place = 0;
     let mut from = 0;
     while let Some((first, len)) = register.next_run(from) {
-        put_run(out, place, first, len);
+        out[place..place + 4].copy_from_slice(&<[u8; 4]>::from(Span { first, len }));
         place += 4;
         from = first + len;
     }
 }
 
 /// Writes the register's number page, and answers its length. Bytes past the page are left.
+#[tactic(auto, using(crate::proofs::Pages::pages_tell_sets, crate::proofs::Writing::length_page))]
 pub fn write<R: Register>(register: &R, out: &mut [u8]) -> Result<usize, Refusal>
     ensures answer { result ≡ write_answer (R.meaning register.now).used out.old }
     ensures after { out.new ≡ write_after (R.meaning register.now).used out.old }
     ensures law { PagesTellSets }
 {
     let count = count_runs(register);
-    let size = 2 + 4 * count as usize;
+    let size = 2 + 4 * usize::from(count);
     if out.len() < size {
         return Err(Refusal::BufferTooShort);
     }
-    put_word(out, 0, count);
-    put_runs(register, out);
+    out[..2].copy_from_slice(&count.to_le_bytes());
+    put_runs(register, &mut out[2..size]);
     Ok(size)
 }
 
-/// The number at a place.
-fn word_at(page: &[u8], place: usize) -> u16
-    requires { place + 2 ≤ length page.now }
-    ensures { result ≡ number_of (slice_index page.now place) (slice_index page.now (place + 1)) }
-{
-    u16::from_le_bytes([page[place], page[place + 1]])
-}
-
-/// The first number and length of the page's pair `i`.
-fn pair_at(page: &[u8], i: usize) -> (u16, u16)
-    requires { 2 + 4 * i + 4 ≤ length page.now }
-    ensures { result ≡ slice_index_or (page_pairs page.now) i (0, 0) }
-{
-    let place = 2 + 4 * i;
-    (word_at(page, place), word_at(page, place + 2))
-}
-
-/// Whether a pair begins at `least` or later, is not empty, and ends at 4,096 at the most.
-fn pair_fits(least: usize, first: u16, len: u16) -> bool
-    ensures { result ≡ fits least (first, len) }
-{
-    usize::from(first) >= least && len > 0 && first <= NUMBERS && len <= NUMBERS - first
-}
-
-/// The place of the first pair that is empty, ends above 4,096 or leaves no gap after the pair before.
-fn pair_fault(page: &[u8], count: usize) -> Option<usize>
-    requires { length page.now ≡ 2 + 4 * count }
-    ensures { result ≡ pair_fault 0 2 (page_pairs page.now) }
+/// Refuses the first pair that is empty, ends above 4,096 or leaves no gap after the pair before.
+fn judge_pairs(pairs: &[[u8; 4]]) -> Result<(), Refusal>
+    ensures { result ≡ refused_at (pair_fault 0 2 (map pair_in pairs.now)) }
 {
     let mut least = 0;
-    for i in 0..count {
-        let (first, len) = pair_at(page, i);
-        if !pair_fits(least, first, len) {
-            return Some(2 + 4 * i);
+    for (i, pair) in pairs.iter().enumerate() {
+        let span = Span::from(*pair);
+        if !span.fits(least) {
+            return Err(Refusal::BadPage(2 + 4 * i));
         }
-        least = usize::from(first) + usize::from(len) + 1;
+        least = span.least_after();
     }
-    None
+    Ok(())
 }
 
-/// The place of the page's first fault from the left, if it has one.
-fn page_fault(page: &[u8]) -> Option<usize>
-    ensures { result ≡ page_fault page.now }
+/// The pairs of a page with no fault, or its first fault from the left.
+fn sound_pairs(bytes: &[u8]) -> Result<&[[u8; 4]], Refusal>
+    ensures sound { OnOk result (page_fault bytes.now ≡ None) }
+    ensures pairs { IfOk result (λ pairs. map pair_in pairs.now ≡ page_pairs bytes.now) }
+    ensures count { IfOk result (λ pairs. length pairs.now ≡ page_count bytes.now) }
+    ensures fault { IfErr result (λ refusal. Err refusal ≡ refused_at (page_fault bytes.now)) }
 {
-    if page.len() < 2 {
-        return Some(0);
+    let [low, high, rest @ ..] = bytes else {
+        return Err(Refusal::BadPage(0));
+    };
+    let (pairs, []) = rest.as_chunks::<4>() else {
+        return Err(Refusal::BadPage(0));
+    };
+    let count = u16::from_le_bytes([*low, *high]);
+    if pairs.len() != usize::from(count) {
+        return Err(Refusal::BadPage(0));
     }
-    let count = usize::from(word_at(page, 0));
-    if page.len() != 2 + 4 * count {
-        return Some(0);
-    }
-    pair_fault(page, count)
+    judge_pairs(pairs)?;
+    Ok(pairs)
 }
 
-/// Marks the numbers of the page's pair `i`.
-fn mark_pair<R: Register>(register: &mut R, page: &[u8], i: usize) -> Result<(), Refusal>
-    requires sound { Faultless page.now }
-    requires pair { i < page_count page.now }
-    requires room { page_count page.now ≤ (R.meaning register.old).limit }
-    requires earlier { (R.meaning register.old).used ≡ covered (take i (page_pairs page.now)) }
-    ensures granted { result ≡ Ok tt }
-    ensures after { R.meaning register.new ≡ with_pairs (R.meaning register.old) (take (i + 1) (page_pairs page.now)) }
+/// Marks the numbers of a span one after another, up to the first that is refused.
+fn mark_span<R: Register>(register: &mut R, span: Span) -> Result<(), Refusal>
+    requires { span.first + span.len < 65536 }
+    ensures answer { result ≡ marks_answer (R.meaning register.old) (numbers_of (pair_of span)) }
+    ensures after { R.meaning register.new ≡ marks_after (R.meaning register.old) (numbers_of (pair_of span)) }
 {
-    let (first, len) = pair_at(page, i);
-    let end = first + len;
-    for n in first..end {
+    for n in span.first..span.first + span.len {
         register.mark(n)?;
     }
     Ok(())
 }
 
-/// Marks the numbers of every pair of the page.
-fn mark_pairs<R: Register>(register: &mut R, page: &[u8], count: usize) -> Result<(), Refusal>
-    requires sound { Faultless page.now }
-    requires count { count ≡ page_count page.now }
-    requires room { page_count page.now ≤ (R.meaning register.old).limit }
-    requires blank { (R.meaning register.old).used ≡ covered [] }
-    ensures granted { result ≡ Ok tt }
-    ensures after { R.meaning register.new ≡ with_pairs (R.meaning register.old) (page_pairs page.now) }
+/// Marks the numbers of the pairs one after another, up to the first that is refused.
+fn mark_pairs<R: Register>(register: &mut R, pairs: &[[u8; 4]]) -> Result<(), Refusal>
+    requires { apart 0 (map pair_in pairs.now) ≡ true }
+    ensures answer { result ≡ marks_answer (R.meaning register.old) (flat_map numbers_of (map pair_in pairs.now)) }
+    ensures after { R.meaning register.new ≡ marks_after (R.meaning register.old) (flat_map numbers_of (map pair_in pairs.now)) }
 {
-    for i in 0..count {
-        mark_pair(register, page, i)?;
+    for pair in pairs {
+        mark_span(register, Span::from(*pair))?;
     }
     Ok(())
 }
 
 /// Gives a blank register the numbers of a page, or refuses and changes nothing.
-pub fn load<R: Register>(register: &mut R, page: &[u8]) -> Result<(), Refusal>
-    ensures answer { result ≡ load_answer (R.meaning register.old) page.now }
-    ensures after { R.meaning register.new ≡ load_after (R.meaning register.old) page.now }
-    ensures back { result ≡ Ok tt → page_of (R.meaning register.new).used ≡ page.now }
+#[tactic(auto, using(crate::proofs::Pages::written_pages_load, crate::proofs::Pages::blank_is_empty))]
+pub fn load<R: Register>(register: &mut R, bytes: &[u8]) -> Result<(), Refusal>
+    ensures answer { result ≡ load_answer (R.meaning register.old) bytes.now }
+    ensures after { R.meaning register.new ≡ load_after (R.meaning register.old) bytes.now }
+    ensures back { result ≡ Ok tt → page (R.meaning register.new).used ≡ bytes.now }
     ensures written { WrittenPagesLoad }
     ensures blank { BlankIsEmpty }
 {
     if register.next_run(0).is_some() {
         return Err(Refusal::NotBlank);
     }
-    if let Some(place) = page_fault(page) {
-        return Err(Refusal::BadPage(place));
-    }
-    let count = word_at(page, 0);
-    if count > register.limit() {
+    let pairs = sound_pairs(bytes)?;
+    if pairs.len() > usize::from(register.limit()) {
         return Err(Refusal::TooManyRuns);
     }
-    mark_pairs(register, page, usize::from(count))
+    mark_pairs(register, pairs)
 }

@@ -1,14 +1,18 @@
 //! A table of spans. It keeps no order of its own: the span register around it does.
-ghost use Rattle.std.specs.Prelude.{◌≡◌, ℕ, ◌+◌, ◌-◌, ◌<◌, ◌≤◌, ◌&&◌, [], length, get_or, ◌==◌, nat_lt, slice_index_or, slice_set};
+ghost use Rattle.std.specs.Prelude.{◌≡◌, ℕ, ◌+◌, ◌<◌, ◌≤◌, ◌==◌, [], length, slice_set, take, true};
 ghost use Rattle.std.specs.List.{insert, remove};
-ghost use Rattle.register.specs.Runs.{covered, within};
-ghost use Rattle.register.specs.Spans.{listed, pair_of};
+ghost use Rattle.register.specs.Page.{pair_bytes, pair_in};
+ghost use Rattle.register.specs.Runs.{apart, covered, fits, within};
+ghost use Rattle.register.specs.Spans.{advanced, lengthened, listed, pair_at, pair_of, pairs_of, touches_at, touches_before};
+
+use crate::NUMBERS;
 
 /// How many spans a table holds.
 pub(crate) const SPANS: usize = 64;
 
 /// `len` numbers that follow one another from `first` on.
-#[derive(Clone, Copy)]
+// Calls that lengthen a span ask that its numbers have room. A bound inside the span would be asked for in their place.
+#[derive(Clone, Copy, Debug, PartialEq, Eq)]
 pub(crate) struct Span {
     pub(crate) first: u16,
     pub(crate) len: u16,
@@ -22,41 +26,119 @@ impl Span {
         self.first <= n && n - self.first < self.len
     }
 
+    /// Whether the span begins at `least` or later, is not empty, and ends at 4,096 at the most.
+    pub(crate) fn fits(&self, least: u16) -> bool
+        ensures { result ≡ fits least (pair_of self.now) }
+    {
+        least <= self.first
+            && 0 < self.len
+            && self.first <= NUMBERS
+            && self.len <= NUMBERS - self.first
+    }
+
+    /// Where the next span may begin at the earliest, with a gap between the two.
+    pub(crate) fn least_after(&self) -> u16
+        requires { self.now.first + self.now.len + 1 < 65536 }
+        ensures { result ≡ self.now.first + self.now.len + 1 }
+    {
+        self.first + self.len + 1
+    }
+
     /// Whether `n` is the number right after the span.
     fn ends_before(&self, n: u16) -> bool
         ensures { result ≡ (self.now.first + self.now.len == n) }
     {
-        self.first <= n && n - self.first == self.len
+        n.checked_sub(self.first) == Some(self.len)
     }
 
     /// Takes in `by` more numbers at the end.
     fn grow(&mut self, by: u16)
         requires { self.old.len + by < 65536 }
-        ensures { pair_of self.new ≡ (self.old.first, self.old.len + by) }
+        ensures { pair_of self.new ≡ lengthened (pair_of self.old) by }
     {
         self.len += by;
     }
 
     /// Takes in the number before the first.
     fn advance(&mut self)
-        requires { (0 < self.old.first) × (self.old.len + 1 < 65536) }
-        ensures { pair_of self.new ≡ (self.old.first - 1, self.old.len + 1) }
+        requires some { 0 < self.old.first }
+        requires short { self.old.len + 1 < 65536 }
+        ensures { pair_of self.new ≡ advanced (pair_of self.old) }
     {
         self.first -= 1;
         self.len += 1;
     }
 }
 
+/// A span of the four bytes that stand for it on a number page.
+impl From<[u8; 4]> for Span {
+    ghost from_gives = { λ bytes span. pair_of span ≡ pair_in bytes };
+
+    fn from([a, b, c, d]: [u8; 4]) -> Span {
+        Span {
+            first: u16::from_le_bytes([a, b]),
+            len: u16::from_le_bytes([c, d]),
+        }
+    }
+}
+
+/// The span as it stands on a number page.
+impl From<Span> for [u8; 4] {
+    ghost from_gives = { λ span bytes. bytes ≡ pair_bytes (pair_of span) };
+
+    fn from(span: Span) -> [u8; 4] {
+        let [a, b] = span.first.to_le_bytes();
+        let [c, d] = span.len.to_le_bytes();
+        [a, b, c, d]
+    }
+}
+
+/// Whether one of the spans holds `n`.
+pub(crate) fn covers(spans: &[Span], n: u16) -> bool
+    ensures { result ≡ covered (pairs_of spans.now) n }
+{
+    spans.iter().any(|span| span.holds(n))
+}
+
+/// How many of the spans, which are sorted, begin before `n`.
+pub(crate) fn before(spans: &[Span], n: u16) -> usize
+    requires { apart 0 (pairs_of spans.now) ≡ true }
+    ensures bound { result ≤ length spans.now }
+    ensures earlier { (k : ℕ) → k < result → (pair_at (pairs_of spans.now) k).0 < n }
+    ensures later { result < length spans.now → n ≤ (pair_at (pairs_of spans.now) result).0 }
+{
+    spans.partition_point(|span| span.first < n)
+}
+
+/// Whether there is a span before place `i`, and `n` is the number right after it.
+pub(crate) fn touches_before(spans: &[Span], i: usize, n: u16) -> bool
+    requires { i ≤ length spans.now }
+    ensures { result ≡ touches_before (pairs_of spans.now) i n }
+{
+    spans[..i].last().is_some_and(|span| span.ends_before(n))
+}
+
+/// Whether there is a span at place `i`, and `n` is the number right before it.
+pub(crate) fn touches_at(spans: &[Span], i: usize, n: u16) -> bool
+    requires { n < 4096 }
+    ensures { result ≡ touches_at (pairs_of spans.now) i n }
+{
+    spans.get(i).is_some_and(|span| span.first == n + 1)
+}
+
 /// The first `count` spans of the table.
+// A table and a count: there is no heap here, and so no `Vec`. It has no rule of its own, so calls ask that the count is
+// at most 64; the register around it knows.
 #[derive(Drop)]
 pub(crate) struct Spans {
-    table: [Span; 64],
+    table: [Span; SPANS],
     count: usize,
 }
 
 impl Spans {
     pub(crate) fn new() -> Spans
-        ensures { (listed result ≡ []) × (result.count ≡ 0) }
+        ensures spans { listed result ≡ [] }
+        ensures count { result.count ≡ 0 }
     {
         Spans {
             table: [Span { first: 0, len: 0 }; SPANS],
@@ -64,69 +146,20 @@ impl Spans {
         }
     }
 
-    /// How many spans there are.
-    pub(crate) fn count(&self) -> usize
-        ensures { result ≡ self.now.count }
-    {
-        self.count
-    }
-
-    /// The span at `i`.
-    pub(crate) fn at(&self, i: usize) -> Span
-        requires { (i < self.now.count) × (self.now.count ≤ 64) }
-        ensures { pair_of result ≡ slice_index_or (listed self.now) i (0, 0) }
-    {
-        self.table[i]
-    }
-
-    /// Whether a span holds `n`.
-    pub(crate) fn covers(&self, n: u16) -> bool
+    /// The spans.
+    pub(crate) fn as_slice(&self) -> &[Span]
         requires { self.now.count ≤ 64 }
-        ensures { result ≡ covered (listed self.now) n }
+        ensures spans { result.now ≡ take self.now.count self.now.table }
+        ensures count { length result.now ≡ self.now.count }
     {
-        for i in 0..self.count {
-            if self.table[i].holds(n) {
-                return true;
-            }
-        }
-        false
-    }
-
-    /// How many spans, from the first on, begin before `n`.
-    pub(crate) fn before(&self, n: u16) -> usize
-        requires { self.now.count ≤ 64 }
-        ensures bound { result ≤ self.now.count }
-        ensures earlier { (k : ℕ) → k < result → (get_or (listed self.now) k (0, 0)).0 < n }
-        ensures later { result < self.now.count → n ≤ (get_or (listed self.now) result (0, 0)).0 }
-    {
-        for i in 0..self.count {
-            if self.table[i].first >= n {
-                return i;
-            }
-        }
-        self.count
-    }
-
-    /// Whether there is a span before place `i`, and `n` is the number right after it.
-    pub(crate) fn touches_before(&self, i: usize, n: u16) -> bool
-        requires { (i ≤ self.now.count) × (self.now.count ≤ 64) }
-        ensures { result ≡ (nat_lt 0 i && (get_or (listed self.now) (i - 1) (0, 0)).0 + (get_or (listed self.now) (i - 1) (0, 0)).1 == n) }
-    {
-        i > 0 && self.table[i - 1].ends_before(n)
-    }
-
-    /// Whether there is a span at place `i`, and `n` is the number right before it.
-    pub(crate) fn touches_at(&self, i: usize, n: u16) -> bool
-        requires { (n < 4096) × (self.now.count ≤ 64) }
-        ensures { result ≡ (nat_lt i self.now.count && (get_or (listed self.now) i (0, 0)).0 == n + 1) }
-    {
-        i < self.count && self.table[i].first == n + 1
+        &self.table[..self.count]
     }
 
     /// Lengthens the span at `i`, and no other.
     pub(crate) fn lengthen(&mut self, i: usize, by: u16)
-        requires { (i < self.old.count) × ((self.old.count ≤ 64) × ((get_or (listed self.old) i (0, 0)).1 + by < 65536)) }
-        ensures spans { listed self.new ≡ slice_set (listed self.old) i ((get_or (listed self.old) i (0, 0)).0, (get_or (listed self.old) i (0, 0)).1 + by) }
+        requires inside { i < length (listed self.old) }
+        requires short { (pair_at (listed self.old) i).1 + by < 65536 }
+        ensures spans { listed self.new ≡ slice_set (listed self.old) i (lengthened (pair_at (listed self.old) i) by) }
         ensures count { self.new.count ≡ self.old.count }
     {
         let span = &mut self.table[i];
@@ -135,8 +168,10 @@ impl Spans {
 
     /// Lets the span at `i`, and no other, begin one number earlier.
     pub(crate) fn advance(&mut self, i: usize)
-        requires { (i < self.old.count) × ((self.old.count ≤ 64) × ((0 < (get_or (listed self.old) i (0, 0)).0) × ((get_or (listed self.old) i (0, 0)).1 + 1 < 65536))) }
-        ensures spans { listed self.new ≡ slice_set (listed self.old) i ((get_or (listed self.old) i (0, 0)).0 - 1, (get_or (listed self.old) i (0, 0)).1 + 1) }
+        requires inside { i < length (listed self.old) }
+        requires some { 0 < (pair_at (listed self.old) i).0 }
+        requires short { (pair_at (listed self.old) i).1 + 1 < 65536 }
+        ensures spans { listed self.new ≡ slice_set (listed self.old) i (advanced (pair_at (listed self.old) i)) }
         ensures count { self.new.count ≡ self.old.count }
     {
         let span = &mut self.table[i];
@@ -145,7 +180,8 @@ impl Spans {
 
     /// Puts a span in at `i`.
     pub(crate) fn insert(&mut self, i: usize, span: Span)
-        requires { (i ≤ self.old.count) × (self.old.count < 64) }
+        requires inside { i ≤ self.old.count }
+        requires room { self.old.count < 64 }
         ensures spans { listed self.new ≡ insert (listed self.old) i (pair_of span) }
         ensures count { self.new.count ≡ self.old.count + 1 }
     {
@@ -156,7 +192,8 @@ impl Spans {
 
     /// Takes the span at `i` out.
     fn remove(&mut self, i: usize)
-        requires { (i < self.old.count) × (self.old.count ≤ 64) }
+        requires inside { i < self.old.count }
+        requires few { self.old.count ≤ 64 }
         ensures spans { listed self.new ≡ remove (listed self.old) i }
         ensures count { self.new.count + 1 ≡ self.old.count }
     {
@@ -166,11 +203,13 @@ impl Spans {
 
     /// Makes one span of the spans at `i` and `i + 1` and the one number between them.
     pub(crate) fn join(&mut self, i: usize)
-        requires { (i + 1 < self.old.count) × ((self.old.count ≤ 64) × ((get_or (listed self.old) i (0, 0)).1 + ((get_or (listed self.old) (i + 1) (0, 0)).1 + 1) < 65536)) }
-        ensures spans { listed self.new ≡ remove (slice_set (listed self.old) i ((get_or (listed self.old) i (0, 0)).0, (get_or (listed self.old) i (0, 0)).1 + ((get_or (listed self.old) (i + 1) (0, 0)).1 + 1))) (i + 1) }
+        requires inside { i + 1 < self.old.count }
+        requires few { self.old.count ≤ 64 }
+        requires short { (pair_at (listed self.old) i).1 + ((pair_at (listed self.old) (i + 1)).1 + 1) < 65536 }
+        ensures spans { listed self.new ≡ remove (slice_set (listed self.old) i (lengthened (pair_at (listed self.old) i) ((pair_at (listed self.old) (i + 1)).1 + 1))) (i + 1) }
         ensures count { self.new.count + 1 ≡ self.old.count }
     {
-        let more = self.at(i + 1).len + 1;
+        let more = self.table[i + 1].len + 1;
         self.lengthen(i, more);
         self.remove(i + 1);
     }

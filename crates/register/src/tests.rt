@@ -9,8 +9,8 @@ const FULL: usize = 258;
 
 /// Marks each number in turn, and compares the answers.
 fn mark_all<R: Register>(rt: &impl Abort, register: &mut R, marks: &[(u16, Result<(), Refusal>)]) {
-    for (n, answer) in marks {
-        assert_eq!(rt; register.mark(*n), *answer);
+    for &(n, answer) in marks {
+        assert_eq!(rt; register.mark(n), answer);
     }
 }
 
@@ -55,12 +55,10 @@ fn full_spans(rt: HostRuntime) {
 
 /// The answer that the rules give, but for too many runs.
 fn expected(plain: &[bool; 4096], n: u16) -> Result<(), Refusal> {
-    if n >= NUMBERS {
-        Err(Refusal::NumberTooLarge)
-    } else if plain[usize::from(n)] {
-        Err(Refusal::NumberUsed)
-    } else {
-        Ok(())
+    match plain.get(usize::from(n)) {
+        None => Err(Refusal::NumberTooLarge),
+        Some(true) => Err(Refusal::NumberUsed),
+        Some(false) => Ok(()),
     }
 }
 
@@ -79,12 +77,11 @@ fn random_marks(rt: HostRuntime) -> Result<(), Fail> {
         }
         assert_eq!(rt; answer, expected(&plain, n));
         assert_eq!(rt; chart.mark(n), answer);
-        if n < NUMBERS {
-            plain[usize::from(n)] = true;
+        if let Some(used) = plain.get_mut(usize::from(n)) {
+            *used = true;
         }
     }
-    for n in 0..NUMBERS {
-        let used = plain[usize::from(n)];
+    for (n, used) in (0..NUMBERS).zip(plain) {
         assert!(rt; chart.ask(n) == used && span.ask(n) == used);
     }
     let mut left = [0u8; FULL];
@@ -119,11 +116,11 @@ fn pages(rt: HostRuntime) {
         (&[2, 0, 0, 0, 3, 0, 2, 0, 9, 0], Err(Refusal::BadPage(6))),
         (&[2, 0, 7, 0, 1, 0, 0, 0, 3, 0], Err(Refusal::BadPage(6))),
     ];
-    for (bytes, answer) in &pages {
+    for (bytes, answer) in pages {
         let mut chart = ChartRegister::new();
         let mut span = SpanRegister::new();
-        assert_eq!(rt; page::load(&mut chart, bytes), *answer);
-        assert_eq!(rt; page::load(&mut span, bytes), *answer);
+        assert_eq!(rt; page::load(&mut chart, bytes), answer);
+        assert_eq!(rt; page::load(&mut span, bytes), answer);
         assert_eq!(rt; chart.next_run(0), span.next_run(0));
         assert!(rt; answer.is_ok() || chart.next_run(0).is_none());
     }

@@ -1,24 +1,29 @@
-use Rattle.std.proofs.Common.{◌≡◌, Some, None, sym, ap, ◌∙◌}
+use Rattle.std.proofs.Common.{◌≡◌, ℕ, ◌<◌, ◌≤◌, Some, true, false, ◌∙◌, rules, tests}
+use Rattle.std.proofs.lemmas.Iterator.{first_from_Range}
+use Rattle.std.specs.Option.{MatchOption}
 use Rattle.register.specs.Chart.{charted}
-use Rattle.register.specs.Runs.{first_pair, next_run}
-use Rattle.register.proofs.Bitmap.{charted_small}
-use Rattle.register.specs.Steps.{from_yes, from_no, from_end}
+use Rattle.register.specs.Runs.{begins, next_run}
+use Rattle.register.specs.LawfulRegisters.{charted_small}
 use Rattle.register.proofs.Walk.{first_run}
+use Rattle.register.proofs.Finding.{none_begins, one_begins}
 use Rattle.register.proofs.chart.ChartRegisterRegister.next_run.Goals as goal
+use Rattle.register.proofs.chart.ChartRegisterRegister.next_run.Goals.{After-find}
 
-pub returns-then-begins : goal.returns-then-begins
-returns-then-begins c =
-    let ws = c.args.self.now.words in
-    let n = c.loop-first.first in
-    let value = ap (λ l. Some (n, l)) c.stretch.ensures ∙ ap first_pair (sym (from_yes (charted ws) n c.loop-first-test.true (sym c.if-begins.ensures)) ∙ c.loop-first.invariant) in
-    record { value = value; first = first_run (charted ws) (charted_small ws) c.args.n _ value }
+found : (c : After-find) → MatchOption c.find.result
+    ((k : ℕ) → c.args.n ≤ k → k < 4096 → begins (charted c.args.self.now.words) k ≡ false)
+    (λ i. (c.args.n ≤ i) × (i < 4096) × (begins (charted c.args.self.now.words) i ≡ true) × ((k : ℕ) → c.args.n ≤ k → k < i → begins (charted c.args.self.now.words) k ≡ false))
+found c = first_from_Range _ _ _ _ (λ i. begins (charted c.args.self.now.words) i ≡ true) (λ i. begins (charted c.args.self.now.words) i ≡ false) c.find.ensures.ran (λ x q k. search (rules, tests)) (λ x q k. search (rules, tests))
 
-pub loop-first-preserved : goal.loop-first-preserved
-loop-first-preserved c =
-    sym (from_no (charted c.args.self.now.words) c.loop-first.first (sym c.if-begins.ensures)) ∙ c.loop-first.invariant
+pub returns-in_err-first : goal.returns-in_err-first
+returns-in_err-first c =
+    let used = charted c.args.self.now.words in
+    let f = rw c.in_err-first.was at (found (goal.at.returns-in_err-first c).After-find) in
+    let value : c.from_residual.result ≡ next_run used c.args.n = c.from_residual.ensures ∙ none_begins used c.args.n f in
+    record { value = value; first = first_run used (charted_small c.args.self.now.words) c.args.n _ value }
 
 pub returns : goal.returns
 returns c =
-    let ws = c.args.self.now.words in
-    let value : None ≡ next_run (charted ws) c.args.n = ap first_pair (sym (from_end (charted ws) c.loop-first.first c.loop-first-test.false) ∙ c.loop-first.invariant) in
-    record { value = value; first = first_run (charted ws) (charted_small ws) c.args.n None value }
+    let used = charted c.args.self.now.words in
+    let f = rw c.in_ok-first.was at (found (goal.at.returns c).After-find) in
+    let value : Some (c.in_ok-first.first, c.stretch.result) ≡ next_run used c.args.n = rw c.stretch.ensures (one_begins used c.args.n c.in_ok-first.first f.0 f.1 f.2 f.3) in
+    record { value = value; first = first_run used (charted_small c.args.self.now.words) c.args.n _ value }

@@ -1,12 +1,9 @@
-use Rattle.std.proofs.Common.{◌≡◌, length, refl, arith, rules}
+use Rattle.std.proofs.Common.{◌≡◌, length, arith, rules}
 use Rattle.register.proofs.Tables.{pairs_inserted}
 use Rattle.register.proofs.spans.Spans.insert.Goals as goal
 
-pub returns : goal.returns
-returns c =
+pub returns-clause-spans : goal.returns-clause-spans
+returns-clause-spans c =
     let tb = c.args.self.now.table in
     let long : length tb ≡ 64 = search rules in
-    record {
-      spans = pairs_inserted tb c.args.i c.args.self.now.count c.args.span c.rotate_right.new.self c.requires.0 (omega arith) c.rotate_right.ensures.after;
-      count = refl;
-    }
+    pairs_inserted tb c.args.i c.args.self.now.count c.args.span c.rotate_right.new.self c.requires.inside (omega arith) c.rotate_right.ensures.after
