@@ -1,10 +1,10 @@
 -- Bytes as hexadecimal text: two digits a byte, the high half first. Assumes nothing.
-use Rattle.std.specs.Prelude.{ℕ, ◌+◌, ◌-◌, ◌*◌, ◌/◌, ◌%◌, Bool, cond, ◌&&◌, List, [], ◌∷◌, Some, None, Option, nat_le, nat_lt}
+use Rattle.std.specs.Prelude.{ℕ, ◌+◌, ◌-◌, ◌*◌, ◌/◌, ◌%◌, Bool, if◌then◌else◌, ◌&&◌, List, [], ◌∷◌, Some, None, Option, nat_le, nat_lt}
 use Rattle.std.specs.List.{flat_map}
 
 -- the lower-case digit of a number below 16
 abbrev pub digit : ℕ → ℕ
-digit n = cond (nat_lt n 10) (48 + n) (87 + n)
+digit n = if nat_lt n 10 then 48 + n else 87 + n
 
 abbrev pub digits : ℕ → List ℕ
 digits b = digit (b / 16) ∷ digit (b % 16) ∷ []
@@ -19,17 +19,28 @@ between low c high = nat_le low c && nat_le c high
 -- the number that a digit of either case stands for
 abbrev pub digit_value : ℕ → Option ℕ
 digit_value c =
-    cond (between 48 c 57) (Some (c - 48)) (cond (between 97 c 102) (Some (c - 87)) (cond (between 65 c 70) (Some (c - 55)) None))
+    if between 48 c 57 then Some (c - 48)
+    else if between 97 c 102 then Some (c - 87)
+    else if between 65 c 70 then Some (c - 55)
+    else None
 
--- a byte of its two digits, before the bytes that follow
-abbrev pub paired : Option ℕ → Option ℕ → Option (List ℕ) → Option (List ℕ)
-paired None l bs = None
-paired (Some h) None bs = None
-paired (Some h) (Some l) None = None
-paired (Some h) (Some l) (Some bs) = Some ((16 * h + l) ∷ bs)
+-- a byte of its two digits, if both are digits
+abbrev pub joined : Option ℕ → Option ℕ → Option ℕ
+joined None l = None
+joined (Some h) None = None
+joined (Some h) (Some l) = Some (16 * h + l)
+
+abbrev pub byte_of : ℕ → ℕ → Option ℕ
+byte_of a b = joined (digit_value a) (digit_value b)
+
+-- a byte before the bytes that follow
+abbrev pub before : Option ℕ → Option (List ℕ) → Option (List ℕ)
+before None bs = None
+before (Some b) None = None
+before (Some b) (Some bs) = Some (b ∷ bs)
 
 -- the bytes that a text stands for; none at an odd length or another character
 abbrev pub bytes_of : List ℕ → Option (List ℕ)
 bytes_of [] = Some []
 bytes_of (a ∷ []) = None
-bytes_of (a ∷ b ∷ rest) = paired (digit_value a) (digit_value b) (bytes_of rest)
+bytes_of (a ∷ b ∷ rest) = before (byte_of a b) (bytes_of rest)

@@ -1,60 +1,45 @@
 //! Bytes as hexadecimal text, two digits a byte.
+//! The kit's library `hex` does the like; it would be one more crate whose statements are trusted.
 #![tactic(auto)]
 
-ghost use Rattle.std.specs.Prelude.{◌≡◌, ◌+◌, ◌*◌, ◌<◌, List, IfOk, Some, None, string_bytes, MatchOption};
-ghost use Rattle.hexadecimal.specs.Hex.{digit, hex_of, digit_value, bytes_of};
+ghost use Rattle.std.specs.Prelude.{◌≡◌, IfOk, Some, None, string_bytes, MatchOption};
+ghost use Rattle.hexadecimal.specs.Hex.{hex_of, byte_of, bytes_of};
 
 use std::alloc::{AllocError, Global};
 
-/// The lower-case digit of a number below 16.
-fn digit_of(n: u8) -> char
-    requires { n < 16 }
-    ensures value { result ≡ digit n }
-    ensures ascii { result < 128 }
-{
-    char::from(if n < 10 { b'0' + n } else { b'a' - 10 + n })
-}
-
 /// The bytes in lower-case digits, the high half of each byte first.
-pub fn encode(heap: Global, bytes: &[u8]) -> Result<String, AllocError>
+pub fn encode(alloc: Global, bytes: &[u8]) -> Result<String, AllocError>
     ensures { IfOk result (λ s. string_bytes s ≡ hex_of bytes.now) }
 {
-    let mut text = String::new(heap);
+    let mut text = String::new(alloc);
     for b in bytes {
-        text.push(digit_of(*b / 16))?;
-        text.push(digit_of(*b % 16))?;
+        write!(text, "{b:02x}")?;
     }
     Ok(text)
 }
 
-/// The number that a digit of either case stands for.
-fn value_of(c: u8) -> Option<u8>
-    ensures { result ≡ digit_value c }
+/// The byte that two digits of either case write, the high half first.
+fn byte_of(high: u8, low: u8) -> Option<u8>
+    ensures { result ≡ byte_of high low }
 {
-    match c {
-        b'0'..=b'9' => Some(c - b'0'),
-        b'a'..=b'f' => Some(c - b'a' + 10),
-        b'A'..=b'F' => Some(c - b'A' + 10),
-        _ => None,
-    }
+    let high = char::from(high).to_digit(16)?;
+    let low = char::from(low).to_digit(16)?;
+    u8::try_from(16 * high + low).ok()
 }
 
 /// The bytes that a text stands for; `None` at an odd length or a character that is no digit.
-pub fn decode(heap: Global, text: &str) -> Result<Option<Vec<u8>>, AllocError>
+pub fn decode(alloc: Global, text: &str) -> Result<Option<Vec<u8>>, AllocError>
     ensures { IfOk result (λ o. MatchOption o (bytes_of text.now ≡ None) (λ v. bytes_of text.now ≡ Some v.items)) }
 {
-    let mut bytes = Vec::new(heap);
-    let mut rest = text.as_bytes();
-    while let [a, b, after @ ..] = rest {
-        let (Some(high), Some(low)) = (value_of(*a), value_of(*b)) else {
+    let (pairs, []) = text.as_bytes().as_chunks::<2>() else {
+        return Ok(None);
+    };
+    let mut bytes = Vec::new(alloc);
+    for [high, low] in pairs {
+        let Some(byte) = byte_of(*high, *low) else {
             return Ok(None);
         };
-        bytes.push(16 * high + low)?;
-        rest = after;
+        bytes.push(byte)?;
     }
-    if rest.is_empty() {
-        Ok(Some(bytes))
-    } else {
-        Ok(None)
-    }
+    Ok(Some(bytes))
 }

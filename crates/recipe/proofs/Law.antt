@@ -13,19 +13,17 @@ use Rattle.recipe.specs.Laws.{followed, Follows, Begins, MayRun, Fault, no_line,
 use Rattle.recipe.specs.Lines.{Entry, in_range, bytes_of, read_line, Stands}
 use Rattle.recipe.specs.Trough.{step_of}
 use Rattle.recipe.specs.Verdict.{next, held, entries, total, end_fault, fault, weighed, verdict}
-use Rattle.recipe.proofs.Back.{none_some, read_length, read_back, sound}
+use Rattle.std.proofs.lemmas.Option.{none-some, same_Some}
+use Rattle.recipe.proofs.Back.{read_length, read_back, sound}
 use Rattle.recipe.proofs.Walk.{some_bytes, held_next, held_bad, ruled, not_empty, stepped}
-
-some_same : {X : Type 0} (x y : X) → Some x ≡ Some y → x ≡ y
-some_same x y p = cc
 
 -- the bytes of lines can be read in one way only
 one_way : (es fs : List Entry) → AllByRecursion (λ e. in_range e ≡ true) es → AllByRecursion (λ e. in_range e ≡ true) fs → flat_map bytes_of es ≡ flat_map bytes_of fs → es ≡ fs
 one_way [] [] h k p = refl
-one_way [] (f ∷ fs) h k p = absurd (none_some (f, flat_map bytes_of fs) (ap read_line p ∙ read_back f (flat_map bytes_of fs) k.0))
-one_way (e ∷ es) [] h k p = absurd (none_some (e, flat_map bytes_of es) (ap read_line (sym p) ∙ read_back e (flat_map bytes_of es) h.0))
+one_way [] (f ∷ fs) h k p = absurd (none-some (f, flat_map bytes_of fs) (ap read_line p ∙ read_back f (flat_map bytes_of fs) k.0))
+one_way (e ∷ es) [] h k p = absurd (none-some (e, flat_map bytes_of es) (ap read_line (sym p) ∙ read_back e (flat_map bytes_of es) h.0))
 one_way (e ∷ es) (f ∷ fs) h k p =
-    let q = some_same (e, flat_map bytes_of es) (f, flat_map bytes_of fs) (sym (read_back e (flat_map bytes_of es) h.0) ∙ ap read_line p ∙ read_back f (flat_map bytes_of fs) k.0) in
+    let q = same_Some (e, flat_map bytes_of es) (f, flat_map bytes_of fs) (sym (read_back e (flat_map bytes_of es) h.0) ∙ ap read_line p ∙ read_back f (flat_map bytes_of fs) k.0) in
     let more = one_way es fs h.1 k.1 (ap (λ x. x.1) q) in
     λ i. (q i).0 ∷ more i
 
@@ -39,7 +37,7 @@ Along es from to place rest =
     × (entries (held (flat_map bytes_of es ++ rest)) ≡ es ++ entries (held rest))
 
 along_one : (e : Entry) (es : List Entry) (from to : Phase) (place : ℕ) (rest : List ℕ) → in_range e ≡ true → ((after : Phase) (k : ℕ) → followed after es ≡ Some to → Along es after to k rest) → (r : Option Phase) → step_of from e ≡ r → followed_by es r ≡ Some to → Along (e ∷ es) from to place rest
-along_one e es from to place rest h ih None q p = absurd (none_some to p)
+along_one e es from to place rest h ih None q p = absurd (none-some to p)
 along_one e es from to place rest h ih (Some after) q p =
     let tail = flat_map bytes_of es ++ rest in
     let size = length (bytes_of e) in
@@ -53,7 +51,7 @@ along_one e es from to place rest h ih (Some after) q p =
 
 along : (es : List Entry) (from to : Phase) (place : ℕ) (rest : List ℕ) → AllByRecursion (λ e. in_range e ≡ true) es → followed from es ≡ Some to → Along es from to place rest
 along [] from to place rest h p =
-    let same = some_same from to p in
+    let same = same_Some from to p in
     let on : place ≡ place + 0 = omega arith in
     (λ i. fault (same i) (on i) (held rest), refl)
 along (e ∷ es) from to place rest h p =
@@ -111,11 +109,11 @@ begins_more bs es e after rest b h = record {
 }
 
 more_by : (e : Entry) (es : List Entry) (to then : Phase) → ((after : Phase) → followed after es ≡ Some to → followed after (es ++ e ∷ []) ≡ Some then) → (r : Option Phase) → followed_by es r ≡ Some to → followed_by (es ++ e ∷ []) r ≡ Some then
-more_by e es to then ih None p = absurd (none_some to p)
+more_by e es to then ih None p = absurd (none-some to p)
 more_by e es to then ih (Some after) p = ih after p
 
 follows_more : (es : List Entry) (e : Entry) (from to then : Phase) → followed from es ≡ Some to → step_of to e ≡ Some then → followed from (es ++ e ∷ []) ≡ Some then
-follows_more [] e from to then p q = ap (followed_by []) (ap (λ x. step_of x e) (some_same from to p) ∙ q)
+follows_more [] e from to then p q = ap (followed_by []) (ap (λ x. step_of x e) (same_Some from to p) ∙ q)
 follows_more (x ∷ es) e from to then p q = more_by e es to then (λ after h. follows_more es e after to then h q) (step_of from x) p
 
 -- from wherever the judge stands, it comes to the end or to a fault
@@ -154,7 +152,7 @@ module _ (bs : List ℕ) (k : Bytes bs) where
   unfolding Goal
   at_line es phase rest l b f ih None p =
       subst (λ o. Settled bs (es ++ entries (held rest)) o) (sym (ap (fault phase (length (flat_map bytes_of es))) (held_bad rest l p)))
-      (no_line es phase rest b f l (λ e after h. none_some (e, after) (sym p ∙ stands_read e after rest h)))
+      (no_line es phase rest b f l (λ e after h. none-some (e, after) (sym p ∙ stands_read e after rest h)))
   at_line es phase rest l b f ih (Some x) p =
       let long = read_length rest x p in
       let some = some_bytes x.0 in

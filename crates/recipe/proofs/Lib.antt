@@ -1,6 +1,5 @@
 mod Back
 mod Law
 mod Parse
-mod Reading
 mod Show
 mod Walk

@@ -1,18 +1,15 @@
 -- Lines from text. Assumes nothing.
-use Rattle.std.proofs.Common.{◌≡◌, ℕ, suc, ◌^◌, ◌<◌, ◌≤◌, true, leb, List, [], ◌∷◌, ◌++◌, length, get_or, drop, Some, None, decimal, Option, sym, refl, ap, ◌∙◌, subst, ⊎_elim, arith, Bor}
+use Rattle.std.proofs.Common.{◌≡◌, ◌≢◌, ℕ, suc, ◌^◌, ◌<◌, ◌≤◌, true, List, [], ◌∷◌, ◌++◌, length, get_or, drop, Some, None, decimal, Option, MatchOption, sym, refl, ap, ◌∙◌, subst, ⊎_elim, arith, Bor}
 use Rattle.std.proofs.lemmas.Fmt.{digits_decimal, decimal_injective}
 use Rattle.std.proofs.lemmas.Str.Parse.{not_in_digits}
 use Rattle.std.proofs.lemmas.Str.Pattern.{IsSplitOnceResult, split_after, split_parts}
+use Rattle.std.specs.Bool.{then_some}
 use Rattle.std.proofs.lemmas.Option.{MatchOption-at_some, MatchOption-at_none}
-use Rattle.std.proofs.lemmas.Bool.{leb-true, and_parts, cond-true, cond-false, cases_Bool, false≢true}
-use Rattle.recipe.specs.Lines.{Entry, dose, mix, empty, remark, within, in_range}
-use Rattle.recipe.specs.Text.{fields_of, text_of, in_range_only, Parsed, Any, Dosing, Mixing, TextBack}
-use Rattle.recipe.proofs.Show.{own}
-
-between : (low high n : ℕ) → within low high n ≡ true → (low ≤ n) × (n ≤ high)
-between low high n h =
-    let parts = and_parts (leb low n) (leb n high) h in
-    (leb-true low n parts.0, leb-true n high parts.1)
+use Rattle.std.proofs.lemmas.Bool.{and_parts, cases_Bool, false≢true}
+use Rattle.recipe.specs.Lines.{Entry, dose, mix, empty, remark, within, in_range, in_range_only}
+use Rattle.recipe.specs.Text.{fields_of, text_of, Parsed, Any, Dosing, Mixing, TextBack}
+use Rattle.recipe.proofs.Back.{between}
+use Rattle.recipe.proofs.Show.{own, Numbered}
 
 pub dose_range : (bin grams : ℕ) → in_range (dose bin grams) ≡ true → (0 < bin) × (bin ≤ 32) × (0 < grams) × (grams ≤ 2_000_000)
 dose_range bin grams h =
@@ -30,66 +27,83 @@ module _ (Kind : Entry → Type 0) (text : Entry → List ℕ) (bs : List ℕ) w
   pub one_parsed : (r : Option Entry) (e : Entry) → r ≡ in_range_only e → Kind e → bs ≡ text e → ((f : Entry) → Kind f → in_range f ≡ true → bs ≡ text f → f ≡ e) → Parsed Kind text bs r
   one_parsed r e p k q only =
       ⊎_elim
-      (λ t. subst (Parsed Kind text bs) (sym (p ∙ cond-true (in_range e) (Some e) None t)) (k, t, q))
-      (λ f. none_parsed r (p ∙ cond-false (in_range e) (Some e) None f) (λ x kx t b. false≢true (sym f ∙ ap in_range (sym (only x kx t b)) ∙ t)))
+      (λ t. subst (Parsed Kind text bs) (sym (p ∙ ap (λ b. then_some b e) t)) (k, t, q))
+      (λ f. none_parsed r (p ∙ ap (λ b. then_some b e) f) (λ x kx t b. false≢true (sym f ∙ ap in_range (sym (only x kx t b)) ∙ t)))
       (cases_Bool (in_range e))
 
-pub only_mix : (bs : List ℕ) (n : ℕ) → n ≤ 65_535 → bs ≡ decimal n → (f : Entry) → Mixing f → in_range f ≡ true → bs ≡ fields_of f → f ≡ mix n
-only_mix bs n h p (dose bin grams) k t q = absurd k
-only_mix bs n h p (mix seconds) k t q =
-    let r = between 1 3_600 seconds t in
-    ap mix (decimal_injective seconds n (omega (arith, r.1)) (omega arith) (sym q ∙ p))
-only_mix bs n h p empty k t q = absurd k
-only_mix bs n h p (remark text) k t q = absurd k
+-- what holds of each dose holds of whatever is one, and so for a mix
+module _ (P : Entry → Type 0) where
+  of_dose : ((bin grams : ℕ) → P (dose bin grams)) → (f : Entry) → Dosing f → P f
+  of_dose h (dose bin grams) k = h bin grams
+  of_dose h (mix seconds) k = absurd k
+  of_dose h empty k = absurd k
+  of_dose h (remark text) k = absurd k
+
+  of_mix : ((seconds : ℕ) → P (mix seconds)) → (f : Entry) → Mixing f → P f
+  of_mix h (dose bin grams) k = absurd k
+  of_mix h (mix seconds) k = h seconds
+  of_mix h empty k = absurd k
+  of_mix h (remark text) k = absurd k
+
+-- what is read of the field of a mix decides what is parsed
+module _ (bs : List ℕ) (r : Option Entry) where
+  pub no_mix : r ≡ None → ((n : ℕ) → 0 < n → n < 2 ^ 16 → bs ≢ decimal n) → Parsed Mixing fields_of bs r
+  no_mix p n =
+      none_parsed Mixing fields_of bs r p (of_mix (λ f. in_range f ≡ true → bs ≢ fields_of f) (λ seconds t.
+      let s = between 1 3_600 seconds t in
+      n seconds s.0 (omega (arith, s.1))))
+
+  pub one_mix : (n : ℕ) → n < 2 ^ 16 → r ≡ in_range_only (mix n) → Numbered 16 bs (Some n) → Parsed Mixing fields_of bs r
+  one_mix n h p m =
+      one_parsed Mixing fields_of bs r (mix n) p tt m.1 (of_mix (λ f. in_range f ≡ true → bs ≡ fields_of f → f ≡ mix n) (λ seconds t q.
+      let s = between 1 3_600 seconds t in
+      ap mix (decimal_injective seconds n (omega (arith, s.1)) (omega arith) (sym q ∙ m.1))))
 
 no_space : (n : ℕ) → n < 2 ^ 64 → (i : ℕ) → i < length (decimal n) → get_or (decimal n) i 0 ≡ 32 → ⊥
 no_space n h = not_in_digits own (decimal n) 32 (digits_decimal own n h) (λ k. omega arith)
 
-module _ (bs : List ℕ) (r : Option (Bor (List ℕ) × Bor (List ℕ))) (h : IsSplitOnceResult 32 bs r) where
-  -- the fields of a dose are split between its numbers
-  pub unsplit : r ≡ None → (f : Entry) → Dosing f → in_range f ≡ true → bs ≡ fields_of f → ⊥
-  unsplit p (dose bin grams) k t q =
+-- and so for the two fields of a dose
+module _ (bs : List ℕ) (parts : Option (Bor (List ℕ) × Bor (List ℕ))) (h : IsSplitOnceResult 32 bs parts) (r : Option Entry) where
+  split_dose : (bin grams : ℕ) → in_range (dose bin grams) ≡ true → bs ≡ fields_of (dose bin grams)
+      → MatchOption parts ⊥ (λ x. (x.0.now ≡ decimal bin) × (x.1.now ≡ decimal grams))
+  split_dose bin grams t q =
       let range = dose_range bin grams t in
-      MatchOption-at_none ⊥ (λ x. (x.0.now ≡ decimal bin) × (x.1.now ≡ decimal grams)) p (split_after 32 bs (decimal bin) (decimal grams) r h (omega arith) q (no_space bin (omega (arith, range.1))))
-  unsplit p (mix seconds) k t q = k
-  unsplit p empty k t q = k
-  unsplit p (remark text) k t q = k
+      split_after 32 bs (decimal bin) (decimal grams) parts h (omega arith) q (no_space bin (omega (arith, range.1)))
 
-  pub split_dose : (x : Bor (List ℕ) × Bor (List ℕ)) → r ≡ Some x → (bin grams : ℕ) → in_range (dose bin grams) ≡ true → bs ≡ fields_of (dose bin grams) → (x.0.now ≡ decimal bin) × (x.1.now ≡ decimal grams)
-  split_dose x p bin grams t q =
-      let range = dose_range bin grams t in
-      MatchOption-at_some ⊥ (λ x. (x.0.now ≡ decimal bin) × (x.1.now ≡ decimal grams)) x p (split_after 32 bs (decimal bin) (decimal grams) r h (omega arith) q (no_space bin (omega (arith, range.1))))
+  no_dose : r ≡ None → ((bin grams : ℕ) → in_range (dose bin grams) ≡ true → bs ≢ fields_of (dose bin grams)) → Parsed Dosing fields_of bs r
+  no_dose p n = none_parsed Dosing fields_of bs r p (of_dose (λ f. in_range f ≡ true → bs ≢ fields_of f) n)
 
-  pub joined_dose : (x : Bor (List ℕ) × Bor (List ℕ)) → r ≡ Some x → bs ≡ x.0.now ++ (32 ∷ x.1.now)
-  joined_dose x p =
-      (MatchOption-at_some ((i : ℕ) → i < length bs → get_or bs i 0 ≡ 32 → ⊥) (λ x. (bs ≡ x.0.now ++ (32 ∷ x.1.now)) × ((i : ℕ) → i < length x.0.now → get_or x.0.now i 0 ≡ 32 → ⊥)) x p (split_parts 32 bs r h (omega arith))).0
+  pub unsplit : parts ≡ None → r ≡ None → Parsed Dosing fields_of bs r
+  unsplit s p =
+      no_dose p (λ bin grams t q. MatchOption-at_none ⊥ (λ x. (x.0.now ≡ decimal bin) × (x.1.now ≡ decimal grams)) s (split_dose bin grams t q))
 
-  pub only_dose : (x : Bor (List ℕ) × Bor (List ℕ)) → r ≡ Some x → (b g : ℕ) → b ≤ 255 → g < 2 ^ 32 → x.0.now ≡ decimal b → x.1.now ≡ decimal g → (f : Entry) → Dosing f → in_range f ≡ true → bs ≡ fields_of f → f ≡ dose b g
-  only_dose x p b g hb hg pb pg (dose bin grams) k t q =
-      let range = dose_range bin grams t in
-      let parts = split_dose x p bin grams t q in
-      let sb = decimal_injective bin b (omega (arith, range.1)) (omega arith) (sym parts.0 ∙ pb) in
-      let sg = decimal_injective grams g (omega (arith, range.3)) (omega arith) (sym parts.1 ∙ pg) in
-      λ i. dose (sb i) (sg i)
-  only_dose x p b g hb hg pb pg (mix seconds) k t q = absurd k
-  only_dose x p b g hb hg pb pg empty k t q = absurd k
-  only_dose x p b g hb hg pb pg (remark text) k t q = absurd k
+  module _ (x : Bor (List ℕ) × Bor (List ℕ)) (s : parts ≡ Some x) where
+    fields : (bin grams : ℕ) → in_range (dose bin grams) ≡ true → bs ≡ fields_of (dose bin grams) → (x.0.now ≡ decimal bin) × (x.1.now ≡ decimal grams)
+    fields bin grams t q = MatchOption-at_some ⊥ (λ x. (x.0.now ≡ decimal bin) × (x.1.now ≡ decimal grams)) x s (split_dose bin grams t q)
 
-  pub no_bin : (x : Bor (List ℕ) × Bor (List ℕ)) → r ≡ Some x → ((n : ℕ) → 0 < n → n ≤ 255 → x.0.now ≡ decimal n → ⊥) → (f : Entry) → Dosing f → in_range f ≡ true → bs ≡ fields_of f → ⊥
-  no_bin x p n (dose bin grams) k t q =
-      let range = dose_range bin grams t in
-      n bin range.0 (omega (arith, range.1)) (split_dose x p bin grams t q).0
-  no_bin x p n (mix seconds) k t q = k
-  no_bin x p n empty k t q = k
-  no_bin x p n (remark text) k t q = k
+    pub no_bin : r ≡ None → ((n : ℕ) → 0 < n → n < 2 ^ 8 → x.0.now ≢ decimal n) → Parsed Dosing fields_of bs r
+    no_bin p n =
+        no_dose p (λ bin grams t q.
+        let range = dose_range bin grams t in
+        n bin range.0 (omega (arith, range.1)) (fields bin grams t q).0)
 
-  pub no_grams : (x : Bor (List ℕ) × Bor (List ℕ)) → r ≡ Some x → ((n : ℕ) → 0 < n → n ≤ 4_294_967_295 → x.1.now ≡ decimal n → ⊥) → (f : Entry) → Dosing f → in_range f ≡ true → bs ≡ fields_of f → ⊥
-  no_grams x p n (dose bin grams) k t q =
-      let range = dose_range bin grams t in
-      n grams range.2 (omega (arith, range.3)) (split_dose x p bin grams t q).1
-  no_grams x p n (mix seconds) k t q = k
-  no_grams x p n empty k t q = k
-  no_grams x p n (remark text) k t q = k
+    pub no_grams : r ≡ None → ((n : ℕ) → 0 < n → n < 2 ^ 32 → x.1.now ≢ decimal n) → Parsed Dosing fields_of bs r
+    no_grams p n =
+        no_dose p (λ bin grams t q.
+        let range = dose_range bin grams t in
+        n grams range.2 (omega (arith, range.3)) (fields bin grams t q).1)
+
+    pub one_dose : (b g : ℕ) → b < 2 ^ 8 → g < 2 ^ 32 → r ≡ in_range_only (dose b g) → Numbered 8 x.0.now (Some b) → Numbered 32 x.1.now (Some g) → Parsed Dosing fields_of bs r
+    one_dose b g hb hg p mb mg =
+        let joined =
+        (MatchOption-at_some ((i : ℕ) → i < length bs → get_or bs i 0 ≡ 32 → ⊥) (λ x. (bs ≡ x.0.now ++ (32 ∷ x.1.now)) × ((i : ℕ) → i < length x.0.now → get_or x.0.now i 0 ≡ 32 → ⊥)) x s (split_parts 32 bs parts h (omega arith))).0 in
+        one_parsed Dosing fields_of bs r (dose b g) p tt (joined ∙ (λ i. mb.1 i ++ (32 ∷ mg.1 i)))
+        (of_dose (λ f. in_range f ≡ true → bs ≡ fields_of f → f ≡ dose b g) (λ bin grams t q.
+        let range = dose_range bin grams t in
+        let found = fields bin grams t q in
+        let sb = decimal_injective bin b (omega (arith, range.1)) (omega arith) (sym found.0 ∙ mb.1) in
+        let sg = decimal_injective grams g (omega (arith, range.3)) (omega arith) (sym found.1 ∙ mg.1) in
+        λ i. dose (sb i) (sg i)))
 
 -- two texts around their first space
 NoSpace : List ℕ → Type 0

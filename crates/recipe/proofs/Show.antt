@@ -1,7 +1,9 @@
 -- Lines as text. Assumes nothing.
-use Rattle.std.proofs.Common.{◌≡◌, ℕ, zero, suc, ◌^◌, ◌<◌, true, false, leb, List, [], ◌∷◌, length, get_or, Some, None, Ok, IsUtf8, IsAscii, decimal, Result, sym, ap, ◌∙◌, ⊎_elim, arith}
+use Rattle.std.proofs.Common.{◌≡◌, ◌≢◌, ℕ, zero, suc, ◌^◌, ◌<◌, Bool, true, false, leb, List, [], ◌∷◌, length, get_or, Some, None, Option, Ok, Err, IsUtf8, IsAscii, decimal, Result, MatchOption, refl, sym, ap, ◌∙◌, subst, ⊎_elim, arith}
+use Rattle.std.specs.Bool.{then_some}
+use Rattle.std.specs.Result.{result_ok}
 use Rattle.std.proofs.lemmas.Str.{IsUtf8-from_ascii}
-use Rattle.std.proofs.lemmas.Bool.{leb-true, and_parts, cond-false, cases_Bool, and_from, le-leb, false≢true, cases_lt}
+use Rattle.std.proofs.lemmas.Bool.{leb-true, and_parts, cond-false, cases_Bool, and_from, le-leb, cases_lt}
 use Rattle.std.specs.Str.Parse.{AllDigits, digits_value, ParsesUnsigned}
 use Rattle.std.proofs.lemmas.Fmt.{decimal-digits_value, decimal_nonempty, decimal_digit, first_decimal, digits_decimal, parse-decimal}
 use Rattle.std.proofs.lemmas.Str.Parse.{IsNumeralModel, numerals_by_value, tells_digits, digit_at, parse_plain}
@@ -38,19 +40,32 @@ first n h k =
     let high = digit_at (decimal n) 0 (digits_decimal own n k) (decimal_nonempty n k) in
     and_from (leb 49 (get_or (decimal n) 0 0)) (leb (get_or (decimal n) 0 0) 57) (le-leb 49 (get_or (decimal n) 0 0) (omega arith)) (le-leb (get_or (decimal n) 0 0) 57 (omega arith))
 
-pub not_plain : (bs : List ℕ) (n : ℕ) → within 49 57 (get_or bs 0 0) ≡ false → 0 < n → n < 2 ^ 64 → bs ≡ decimal n → ⊥
-not_plain bs n f h k p = false≢true (sym f ∙ ap (λ l. within 49 57 (get_or l 0 0)) p ∙ first n h k)
+pub not_plain : (bs : List ℕ) → None ≡ then_some (within 49 57 (get_or bs 0 0)) bs → (n : ℕ) → 0 < n → n < 2 ^ 64 → bs ≢ decimal n
+not_plain bs f n h k p =
+    let plain = ap (λ b. then_some b bs) (ap (λ l. within 49 57 (get_or l 0 0)) p ∙ first n h k) in
+    cc
 
-module _ (bs : List ℕ) {E : Type 0} (r : Result ℕ E) (h : ParsesUnsigned 32 10 bs r) where
-  pub read_number : within 49 57 (get_or bs 0 0) ≡ true → (n : ℕ) → r ≡ Ok n → (0 < n) × (bs ≡ decimal n)
-  read_number t n p =
+-- a number that is read of a text, or that the text writes none below 2 ^ w
+abbrev pub Numbered : ℕ → List ℕ → Option ℕ → Type 0
+Numbered w bs r = MatchOption r ((n : ℕ) → 0 < n → n < 2 ^ w → bs ≢ decimal n) (λ n. (0 < n) × (bs ≡ decimal n))
+
+plain_parts : (b : Bool) (bs t : List ℕ) → Some t ≡ then_some b bs → (b ≡ true) × (t ≡ bs)
+plain_parts true bs t p = (refl, cc)
+plain_parts false bs t p = absurd cc
+
+module _ (w : ℕ) (small : (n : ℕ) → n < 2 ^ w → n < 2 ^ 64) (bs : List ℕ) {E : Type 0} where
+  parsed : (r : Result ℕ E) → ParsesUnsigned w 10 bs r → within 49 57 (get_or bs 0 0) ≡ true → Numbered w bs (result_ok r)
+  parsed (Err e) h t = λ n low high p. let ok = parse-decimal w n bs (Err e) high (small n high) p h in cc
+  parsed (Ok n) h t =
       let low = leb-true 49 (get_or bs 0 0) (and_parts (leb 49 (get_or bs 0 0)) (leb (get_or bs 0 0) 57) t).0 in
-      let got = OkIff-at_ok r (AllDigits 10 bs × (0 < length bs) × (digits_value 10 bs < 2 ^ 32)) (digits_value 10 bs) n (parse_plain own 32 bs r h (λ q. omega arith)) p in
-      let back = decimal-digits_value own bs got.0.0 got.0.1 (λ q. absurd (omega arith)) (omega (arith, got.0.2)) in
+      let got = OkIff-at_ok {E = E} (Ok n) (AllDigits 10 bs × (0 < length bs) × (digits_value 10 bs < 2 ^ w)) (digits_value 10 bs) n (parse_plain own {E = E} w bs (Ok n) h (λ q. omega arith)) refl in
+      let back = decimal-digits_value own bs got.0.0 got.0.1 (λ q. absurd (omega arith)) (small (digits_value 10 bs) got.0.2) in
       let is : bs ≡ decimal n = sym back ∙ ap decimal (sym got.1) in (
         ⊎_elim (λ k. k) (λ k. let none : n ≡ 0 = omega arith in absurd (omega (arith, ap (λ l. get_or l 0 0) (is ∙ ap decimal none ∙ decimal_digit 0 (omega arith))))) (cases_lt 0 n),
         is,
       )
 
-  pub same_number : (n : ℕ) → n < 2 ^ 32 → bs ≡ decimal n → r ≡ Ok n
-  same_number n k p = parse-decimal 32 n bs r k (omega arith) p h
+  pub numbered : (t : List ℕ) (r : Result ℕ E) (o q : Option ℕ) → Some t ≡ then_some (within 49 57 (get_or bs 0 0)) bs → ParsesUnsigned w 10 t r → o ≡ result_ok r → o ≡ q → Numbered w bs q
+  numbered t r o q p h e f =
+      let parts = plain_parts (within 49 57 (get_or bs 0 0)) bs t p in
+      subst (Numbered w bs) (sym e ∙ f) (parsed r (subst (λ l. ParsesUnsigned w 10 l r) parts.1 h) parts.0)

@@ -1,16 +1,17 @@
 -- The judge's walk over a recipe, line by line. Assumes nothing.
-use Rattle.std.proofs.Common.{◌≡◌, ℕ, zero, suc, ◌+◌, ◌-◌, ◌<◌, ◌≤◌, min, List, [], ◌∷◌, length, Some, None, Ok, Err, Option, Result, sym, refl, ap, ◌∙◌, arith}
-use Rattle.std.proofs.lemmas.List.{nil_from_length}
+use Rattle.std.proofs.Common.{◌≡◌, ℕ, zero, suc, ◌+◌, ◌-◌, ◌<◌, ◌≤◌, min, add-zero, zero-add, List, [], ◌∷◌, length, Some, None, Ok, Err, Option, Result, sym, refl, ap, ◌∙◌, arith}
 use Rattle.std.proofs.lemmas.Bool.{le-leb, lt-leb, cond-true, cond-false}
 use Rattle.refusal.specs.declared.Refusal.{Refusal}
-use Rattle.refusal.specs.declared.Refusal.TheVariants.{WrongPhase, OverTotal}
+use Rattle.refusal.specs.declared.Refusal.TheVariants.{BadLine, WrongPhase, OverTotal}
 use Rattle.recipe.specs.declared.trough.Phase.{Phase}
 use Rattle.recipe.specs.declared.trough.Phase.TheVariants.{Empty, Filled, Mixed}
 use Rattle.recipe.specs.declared.verdict.Lawful.{Lawful}
 use Rattle.recipe.specs.Lines.{Entry, dose, mix, empty, remark, grams_of, bytes_of, read_line}
 use Rattle.recipe.specs.Trough.{step_of}
-use Rattle.recipe.specs.Verdict.{Held, bad, next, held_in, held, entries, total, end_fault, fault, counted, walked, weighed, verdict}
-use Rattle.recipe.proofs.Back.{none_some, ok_err, read_length}
+use Rattle.recipe.specs.Verdict.{Held, done, bad, next, held_in, held, entries, total, end_fault, fault, counted, walked, weighed, verdict}
+use Rattle.recipe.specs.Placed.{placed}
+use Rattle.std.proofs.lemmas.Option.{none-some}
+use Rattle.recipe.proofs.Back.{ok_err, read_length}
 
 pub some_bytes : (e : Entry) → 1 ≤ length (bytes_of e)
 some_bytes (dose bin grams) = omega arith
@@ -37,7 +38,7 @@ enough (suc n) zero (b ∷ bs) h k = absurd (omega arith)
 enough (suc n) (suc m) (b ∷ bs) h k = from_same n m (b ∷ bs) (read_line (b ∷ bs)) refl h k (enough n m)
 
 pub held_next : (bs : List ℕ) (x : Entry × List ℕ) → read_line bs ≡ Some x → held bs ≡ next x.0 (held x.1)
-held_next [] x p = absurd (none_some x p)
+held_next [] x p = absurd (none-some x p)
 held_next (b ∷ bs) x p =
     let long = read_length (b ∷ bs) x p in
     let some = some_bytes x.0 in
@@ -51,14 +52,6 @@ held_bad (b ∷ bs) h p = ap (from (length bs)) p
 abbrev pub ruled : Option Refusal → Result Lawful Refusal → Result Lawful Refusal
 ruled r granted = elim r [ None ↦ granted | Some f ↦ Err f ]
 
--- the judge stands before rest: what rest holds decides the verdict
-pub record Walked (recipe rest : List ℕ) (phase : Phase) (lines grams : ℕ) : Type 0 where
-  pub left : lines + length rest ≤ length recipe
-  pub faults : fault Empty 0 (held recipe) ≡ fault phase (length recipe - length rest) (held rest)
-  pub counts : length (entries (held recipe)) ≡ lines + length (entries (held rest))
-  pub bounded : grams ≤ 4_294_967_295
-  pub weighs : min (total (entries (held recipe))) 4_294_967_295 ≡ min (grams + total (entries (held rest))) 4_294_967_295
-
 pub not_empty : (place : ℕ) (phase : Phase) → (phase ≡ Empty → ⊥) → end_fault place phase ≡ Some (WrongPhase place)
 not_empty place Empty n = absurd (n refl)
 not_empty place Filled n = refl
@@ -71,48 +64,112 @@ ok_same x y p = cc
 abbrev pub stepped : ℕ → ℕ → Held → Option Phase → Option Refusal
 stepped place size h r = elim r [ None ↦ Some (WrongPhase place) | Some after ↦ fault after (place + size) h ]
 
-module _ {recipe rest : List ℕ} {phase : Phase} {lines grams : ℕ} (w : Walked recipe rest phase lines grams) where
-  pub walks : (e : Entry) (after : List ℕ) (to : Phase) → read_line rest ≡ Some (e, after) → step_of phase e ≡ Some to → (sum : ℕ) → sum ≡ min (grams + grams_of e) 4_294_967_295 → Walked recipe after to (lines + 1) sum
-  walks e after to p q sum r =
-      let h = held_next rest (e, after) p in
-      let long = read_length rest (e, after) p in
-      let some = some_bytes e in
-      let place = length recipe - length rest in
-      let on : place + length (bytes_of e) ≡ length recipe - length after = omega (arith, w.left) in
-      let count = ap (λ x. length (entries x)) h in
-      let weight = ap (λ x. total (entries x)) h in
-      record {
-        left = omega (arith, w.left);
-        faults = w.faults ∙ ap (fault phase place) h ∙ ap (stepped place (length (bytes_of e)) (held after)) q ∙ ap (λ k. fault to k (held after)) on;
-        counts = omega (arith, w.counts);
-        bounded = omega arith;
-        weighs = omega (arith, w.weighs);
-      }
+-- the first fault, from the items that a walk has left
+abbrev pub first_fault : ℕ → Phase → List (Result (ℕ × Entry) Refusal) → Option Refusal
+first_fault end phase [] = end_fault end phase
+first_fault end phase (Err f ∷ items) = Some f
+first_fault end phase (Ok x ∷ items) = elim (step_of phase x.1) [ None ↦ Some (WrongPhase x.0) | Some after ↦ first_fault end after items ]
 
-  -- a fault where the judge stands is the recipe's first
-  refused : (f : Refusal) → fault phase (length recipe - length rest) (held rest) ≡ Some f → Err f ≡ walked recipe
-  refused f p = sym (ap (λ r. ruled r (Ok (counted (entries (held recipe))))) (w.faults ∙ p))
+abbrev pub lines_of : List (Result (ℕ × Entry) Refusal) → List Entry
+lines_of [] = []
+lines_of (Err f ∷ items) = lines_of items
+lines_of (Ok x ∷ items) = x.1 ∷ lines_of items
 
-  pub wrong_here : (e : Entry) (after : List ℕ) → read_line rest ≡ Some (e, after) → step_of phase e ≡ None → Err (WrongPhase (length recipe - length rest)) ≡ walked recipe
-  wrong_here e after p q =
-      let place = length recipe - length rest in
-      refused _ (ap (fault phase place) (held_next rest (e, after) p) ∙ ap (stepped place (length (bytes_of e)) (held after)) q)
+lines_placed : (place : ℕ) (h : Held) → lines_of (placed place h) ≡ entries h
+lines_placed place done = refl
+lines_placed place bad = refl
+lines_placed place (next e h) = ap (λ l. e ∷ l) (lines_placed (place + length (bytes_of e)) h)
 
-  pub not_emptied : length rest ≡ 0 → (phase ≡ Empty → ⊥) → Err (WrongPhase (length recipe)) ≡ walked recipe
-  not_emptied h n =
-      let none = nil_from_length rest h in
-      let at_end : length recipe - length rest ≡ length recipe = omega arith in
-      refused _ (ap (λ l. fault phase (length recipe - length rest) (held l)) none ∙ ap (λ p. end_fault p phase) at_end ∙ not_empty (length recipe) phase n)
+stepped_same : (place size end : ℕ) (h : Held) → ((after : Phase) → fault after (place + size) h ≡ first_fault end after (placed (place + size) h)) → (r : Option Phase)
+    → stepped place size h r ≡ elim r [ None ↦ Some (WrongPhase place) | Some after ↦ first_fault end after (placed (place + size) h) ]
+stepped_same place size end h same None = refl
+stepped_same place size end h same (Some after) = same after
 
-  pub all_walked : length rest ≡ 0 → phase ≡ Empty → Ok (record { lines = lines; grams = grams }) ≡ walked recipe
-  all_walked h e =
-      let nil = nil_from_length rest h in
-      let none = ap (λ l. total (entries (held l))) nil in
-      let no_line = ap (λ l. length (entries (held l))) nil in
-      let sum : grams ≡ min (total (entries (held recipe))) 4_294_967_295 = omega (arith, w.weighs, w.bounded) in
-      let count : lines ≡ length (entries (held recipe)) = omega (arith, w.counts) in
-      (λ i. Ok (record { lines = count i; grams = sum i }))
-      ∙ sym (ap (λ r. ruled r (Ok (counted (entries (held recipe))))) (w.faults ∙ ap (λ l. fault phase (length recipe - length rest) (held l)) nil ∙ ap (end_fault _) e))
+-- the items have the fault that the bytes have, and each takes a byte at least
+abbrev Agrees : ℕ → ℕ → ℕ → Held → Type 0
+Agrees place end size h = ((phase : Phase) → fault phase place h ≡ first_fault end phase (placed place h)) × (length (placed place h) ≤ size)
+
+agrees_from : (n place : ℕ) (bs : List ℕ) → 0 < length bs → ((cs : List ℕ) (k : ℕ) → length cs ≤ n → Agrees k (k + length cs) (length cs) (held_in n cs)) → length bs ≤ suc n
+    → (r : Option (Entry × List ℕ)) → read_line bs ≡ r → Agrees place (place + length bs) (length bs) (from n r)
+agrees_from n place bs some ih h None p = (λ phase. refl, omega arith)
+agrees_from n place bs some ih h (Some x) p =
+    let long = read_length bs x p in
+    let some = some_bytes x.0 in
+    let size = length (bytes_of x.0) in
+    let on : place + size + length x.1 ≡ place + length bs = omega arith in
+    let more = ih x.1 (place + size) (omega arith) in (
+      λ phase. stepped_same place size (place + length bs) (held_in n x.1) (λ after. more.0 after ∙ ap (λ k. first_fault k after (placed (place + size) (held_in n x.1))) on) (step_of phase x.0),
+      omega (arith, more.1),
+    )
+
+agrees : (n place : ℕ) (bs : List ℕ) → length bs ≤ n → Agrees place (place + length bs) (length bs) (held_in n bs)
+agrees n place [] h = (λ phase. ap (λ k. end_fault k phase) (sym (add-zero place)), omega arith)
+agrees zero place (b ∷ bs) h = absurd (omega arith)
+agrees (suc n) place (b ∷ bs) h = agrees_from n place (b ∷ bs) (omega arith) (λ cs k. agrees n k cs) h (read_line (b ∷ bs)) refl
+
+-- a line is read in front of the rest
+pub placed_next : (recipe rest : List ℕ) (e : Entry) (after : List ℕ) → length rest ≤ length recipe → read_line rest ≡ Some (e, after)
+    → placed (length recipe - length rest) (held rest) ≡ Ok (length recipe - length rest, e) ∷ placed (length recipe - length after) (held after)
+placed_next recipe rest e after h p =
+    let place = length recipe - length rest in
+    let long = read_length rest (e, after) p in
+    let on : place + length (bytes_of e) ≡ length recipe - length after = omega arith in
+    ap (placed place) (held_next rest (e, after) p) ∙ ap (λ k. Ok (place, e) ∷ placed k (held after)) on
+
+-- no line stands in front of the rest
+pub placed_bad : (place : ℕ) (rest : List ℕ) → 0 < length rest → read_line rest ≡ None → (end : ℕ) (none : List ℕ) → none ≡ [] → placed place (held rest) ≡ Err (BadLine place) ∷ placed end (held none)
+placed_bad place rest h p end none e = ap (placed place) (held_bad rest h p) ∙ ap (λ l. Err (BadLine place) ∷ placed end (held l)) (sym e)
+
+-- the judge has items left: they decide the verdict
+pub record Walked (recipe : List ℕ) (left : List (Result (ℕ × Entry) Refusal)) (phase : Phase) (lines grams : ℕ) : Type 0 where
+  pub fits : lines + length left ≤ length recipe
+  pub faults : fault Empty 0 (held recipe) ≡ first_fault (length recipe) phase left
+  pub counts : length (entries (held recipe)) ≡ lines + length (lines_of left)
+  pub bounded : grams ≤ 4_294_967_295
+  pub weighs : min (total (entries (held recipe))) 4_294_967_295 ≡ min (grams + total (lines_of left)) 4_294_967_295
+
+pub begun : (recipe : List ℕ) (left : List (Result (ℕ × Entry) Refusal)) (phase : Phase) → left ≡ placed 0 (held recipe) → phase ≡ Empty → Walked recipe left phase 0 0
+begun recipe left phase p e =
+    let same = agrees (length recipe) 0 recipe (omega arith) in
+    let lines = ap lines_of p ∙ lines_placed 0 (held recipe) in
+    let count = ap length lines in
+    let weight = ap total lines in
+    let items = ap length p in
+    record {
+      fits = omega (arith, same.1);
+      faults = same.0 Empty ∙ (λ i. first_fault (zero-add (length recipe) i) (sym e i) (sym p i));
+      counts = omega arith;
+      bounded = omega arith;
+      weighs = omega arith;
+    }
+
+module _ {recipe : List ℕ} {left : List (Result (ℕ × Entry) Refusal)} {phase : Phase} {lines grams : ℕ} (w : Walked recipe left phase lines grams) where
+  module _ (place : ℕ) (e : Entry) (items : List (Result (ℕ × Entry) Refusal)) (p : left ≡ Ok (place, e) ∷ items) where
+    taken : (r : Option Phase) → step_of phase e ≡ r → first_fault (length recipe) phase left ≡ elim r [ None ↦ Some (WrongPhase place) | Some after ↦ first_fault (length recipe) after items ]
+    taken r q = ap (first_fault (length recipe) phase) p ∙ ap (λ (o : Option Phase). elim o [ None ↦ Some (WrongPhase place) | Some after ↦ first_fault (length recipe) after items ]) q
+
+    pub walks : (to : Phase) → step_of phase e ≡ Some to → (sum : ℕ) → sum ≡ min (grams + grams_of e) 4_294_967_295 → Walked recipe items to (lines + 1) sum
+    walks to q sum r =
+        let size = ap length p in
+        let count = ap (λ l. length (lines_of l)) p in
+        let weight = ap (λ l. total (lines_of l)) p in
+        record {
+          fits = omega (arith, w.fits);
+          faults = w.faults ∙ taken (Some to) q;
+          counts = omega (arith, w.counts);
+          bounded = omega arith;
+          weighs = omega (arith, w.weighs);
+        }
+
+  module _ (p : left ≡ []) where
+    pub all_walked : phase ≡ Empty → Ok (record { lines = lines; grams = grams }) ≡ walked recipe
+    all_walked e =
+        let none = ap (λ l. total (lines_of l)) p in
+        let no_line = ap (λ l. length (lines_of l)) p in
+        let sum : grams ≡ min (total (entries (held recipe))) 4_294_967_295 = omega (arith, w.weighs, w.bounded) in
+        let count : lines ≡ length (entries (held recipe)) = omega (arith, w.counts) in
+        (λ i. Ok (record { lines = count i; grams = sum i }))
+        ∙ sym (ap (λ r. ruled r (Ok (counted (entries (held recipe))))) (w.faults ∙ ap (first_fault (length recipe) phase) p ∙ ap (end_fault _) e))
 
 -- the judge after the walk
 module _ (bs : List ℕ) where

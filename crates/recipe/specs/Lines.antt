@@ -1,7 +1,9 @@
 -- The lines of a recipe: what a line says, its range, its bytes, and the line that some bytes begin with.
 -- Assumes nothing.
-use Rattle.std.specs.Prelude.{◌≡◌, ℕ, ◌+◌, ◌*◌, ◌/◌, ◌%◌, Bool, true, cond, ◌&&◌, List, [], ◌∷◌, ◌++◌, length, take, drop, Some, None, Ok, Err, Option, Result, MatchOption, ◌==◌, nat_le, slice_index}
+use Rattle.std.specs.Prelude.{◌≡◌, ℕ, ◌+◌, ◌*◌, ◌/◌, ◌%◌, Bool, true, if◌then◌else◌, ◌&&◌, List, [], ◌∷◌, ◌++◌, length, take, drop, Some, None, Ok, Err, Option, Result, MatchOption, ◌==◌, nat_le, slice_index}
 use Rattle.std.specs.Borrow.{Bor}
+use Rattle.std.specs.Bool.{then_some}
+use Rattle.std.specs.List.{list_all}
 use Rattle.std.specs.Option.{option_map}
 use Rattle.refusal.specs.declared.Refusal.{Refusal}
 use Rattle.refusal.specs.declared.Refusal.TheVariants.{BadLine, BufferTooShort}
@@ -36,14 +38,17 @@ abbrev pub printable : ℕ → Bool
 printable b = within 0x20 0x7E b
 
 abbrev pub all_printable : List ℕ → Bool
-all_printable [] = true
-all_printable (b ∷ bs) = printable b && all_printable bs
+all_printable bs = list_all printable bs
 
 abbrev pub in_range : Entry → Bool
 in_range (dose bin grams) = within 1 32 bin && within 1 2_000_000 grams
 in_range (mix seconds) = within 1 3_600 seconds
 in_range empty = true
 in_range (remark text) = within 1 80 (length text) && all_printable text
+
+-- the line e, if its fields are in range
+abbrev pub in_range_only : Entry → Option Entry
+in_range_only e = then_some (in_range e) e
 
 -- a number of two or four bytes lies low byte first
 abbrev pub two : ℕ → List ℕ
@@ -61,7 +66,7 @@ bytes_of (remark text) = 0x52 ∷ length text ∷ text
 
 -- the line e of n bytes at the front of bs, with the rest, if the bytes are there and its fields are in range
 abbrev pub whole : ℕ → Entry → List ℕ → Option (Entry × List ℕ)
-whole n e bs = cond (nat_le n (length bs) && in_range e) (Some (e, drop n bs)) None
+whole n e bs = if nat_le n (length bs) && in_range e then Some (e, drop n bs) else None
 
 -- what the bytes after its letter say of a dose, a mix and a remark
 abbrev pub dose_in : List ℕ → Entry
@@ -77,11 +82,11 @@ remark_in bs = remark (take (slice_index bs 0) (drop 1 bs))
 abbrev pub read_line : List ℕ → Option (Entry × List ℕ)
 read_line [] = None
 read_line (letter ∷ bs) =
-    cond (letter == 0x44) (whole 5 (dose_in bs) bs)
-    (cond (letter == 0x4D) (whole 2 (mix_in bs) bs)
-    (cond (letter == 0x45) (whole 0 empty bs)
-    (cond (letter == 0x52) (whole (1 + slice_index bs 0) (remark_in bs) bs)
-    None)))
+    if letter == 0x44 then whole 5 (dose_in bs) bs
+    else if letter == 0x4D then whole 2 (mix_in bs) bs
+    else if letter == 0x45 then whole 0 empty bs
+    else if letter == 0x52 then whole (1 + slice_index bs 0) (remark_in bs) bs
+    else None
 
 -- what a reader of lines gives: what the line says, and the rest
 abbrev pub given : Option (Line × Bor (List ℕ)) → Option (Entry × List ℕ)
@@ -97,17 +102,17 @@ Told bs r = MatchOption r ((e : Entry) (rest : List ℕ) → Stands e rest bs �
 
 -- bytes laid over the front of a buffer: the answer, and what the buffer holds then
 abbrev pub covering : List ℕ → List ℕ → Result ℕ Refusal
-covering bs out = cond (nat_le (length bs) (length out)) (Ok (length bs)) (Err BufferTooShort)
+covering bs out = if nat_le (length bs) (length out) then Ok (length bs) else Err BufferTooShort
 
 abbrev pub covered : List ℕ → List ℕ → List ℕ
-covered bs out = cond (nat_le (length bs) (length out)) (bs ++ drop (length bs) out) out
+covered bs out = if nat_le (length bs) (length out) then bs ++ drop (length bs) out else out
 
 -- a line written into a buffer: the answer, and what the buffer holds then
 abbrev pub writing : Entry → List ℕ → Result ℕ Refusal
-writing e out = cond (in_range e) (covering (bytes_of e) out) (Err (BadLine 0))
+writing e out = if in_range e then covering (bytes_of e) out else Err (BadLine 0)
 
 abbrev pub written : Entry → List ℕ → List ℕ
-written e out = cond (in_range e) (covered (bytes_of e) out) out
+written e out = if in_range e then covered (bytes_of e) out else out
 
 -- the line that was written is the line that is read, and the buffer's other bytes follow it
 abbrev pub ReadBack : Entry → List ℕ → List ℕ → Result ℕ Refusal → Type 0

@@ -1,6 +1,6 @@
 -- A line as plain text: `dose BIN GRAMS`, `mix SECONDS`, `empty`, `remark TEXT`, numbers in decimal.
 -- Assumes nothing.
-use Rattle.std.specs.Prelude.{◌≡◌, ℕ, ◌<◌, ◌≤◌, true, cond, List, [], ◌++◌, Some, None, codes, decimal, Option, MatchOption, ◌≢◌}
+use Rattle.std.specs.Prelude.{◌≡◌, ℕ, true, if◌then◌else◌, List, [], ◌++◌, Some, None, codes, decimal, Option, MatchOption, ◌≢◌}
 use Rattle.recipe.specs.declared.lines.Line.{Line}
 use Rattle.recipe.specs.Lines.{Entry, dose, mix, empty, remark, says, in_range}
 
@@ -19,11 +19,7 @@ text_of (remark text) = codes "remark " ++ fields_of (remark text)
 
 -- what is printed of a line with its fields in range
 abbrev pub printed : Line → Option (List ℕ)
-printed l = cond (in_range (says l)) (Some (text_of (says l))) None
-
--- a number from 1 to the most that bytes write in decimal, or that they write none
-abbrev pub Numbered : List ℕ → ℕ → Option ℕ → Type 0
-Numbered bs most r = MatchOption r ((n : ℕ) → 0 < n → n ≤ most → bs ≢ decimal n) (λ n. (0 < n) × (n ≤ most) × (bs ≡ decimal n))
+printed l = if in_range (says l) then Some (text_of (says l)) else None
 
 -- a line of one kind with its fields in range, of which the bytes are the text, or that there is none
 abbrev pub Parsed : (Entry → Type 0) → (Entry → List ℕ) → List ℕ → Option Entry → Type 0
@@ -50,9 +46,6 @@ Remarking (dose bin grams) = ⊥
 Remarking (mix seconds) = ⊥
 Remarking empty = ⊥
 Remarking (remark text) = Unit {0}
-
-abbrev pub in_range_only : Entry → Option Entry
-in_range_only e = cond (in_range e) (Some e) None
 
 -- the text of a line reads as that line
 abbrev pub TextBack : List ℕ → Option Entry → Type 0

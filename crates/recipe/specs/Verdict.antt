@@ -1,6 +1,6 @@
 -- The judge of a recipe: the lines that its bytes hold, its first fault from the left, its total, and the verdict.
 -- Assumes nothing.
-use Rattle.std.specs.Prelude.{ℕ, zero, suc, ◌+◌, ◌-◌, ◌^◌, min, cond, List, [], ◌∷◌, length, Some, None, Ok, Err, Option, Result, nat_le}
+use Rattle.std.specs.Prelude.{ℕ, zero, suc, ◌+◌, ◌-◌, ◌^◌, min, if◌then◌else◌, List, [], ◌∷◌, length, Some, None, Ok, Err, Option, Result, nat_le}
 use Rattle.refusal.specs.declared.Refusal.{Refusal}
 use Rattle.refusal.specs.declared.Refusal.TheVariants.{BadLine, WrongPhase, OverTotal}
 use Rattle.recipe.specs.declared.trough.Phase.{Phase}
@@ -55,7 +55,7 @@ walked bs = elim (fault Empty 0 (held bs)) [ None ↦ Ok (counted (entries (held
 
 -- the total is looked at last
 abbrev pub weighed : List Entry → Result Lawful Refusal
-weighed es = cond (nat_le (total es) 12_000_000) (Ok (record { lines = length es; grams = total es })) (Err OverTotal)
+weighed es = if nat_le (total es) 12_000_000 then Ok (record { lines = length es; grams = total es }) else Err OverTotal
 
 abbrev pub verdict : List ℕ → Result Lawful Refusal
 verdict bs = elim (fault Empty 0 (held bs)) [ None ↦ weighed (entries (held bs)) | Some f ↦ Err f ]

@@ -1,7 +1,8 @@
 //! The lines of a recipe: reading one, and writing one.
-ghost use Rattle.std.specs.Prelude.{◌≡◌, ◌+◌, ◌≤◌, length, slice_index};
-ghost use Rattle.recipe.specs.Lines.{says, grams_of, given, in_range, printable, all_printable, whole, dose_in, mix_in, remark_in, read_line, Told};
-ghost use Rattle.recipe.specs.Lines.{bytes_of, remark, covering, covered, writing, written, ReadBack};
+ghost use Rattle.std.specs.Prelude.{◌≡◌, ◌+◌, ◌++◌, slice_index};
+ghost use Rattle.recipe.specs.Lines.{says, grams_of, given, in_range, printable, all_printable, whole, dose_in, mix_in, remark_in, in_range_only, read_line, Told};
+ghost use Rattle.std.specs.Option.{option_map};
+ghost use Rattle.recipe.specs.Lines.{bytes_of, covering, covered, writing, written, ReadBack};
 
 use refusal::Refusal;
 
@@ -22,18 +23,13 @@ pub enum Line<'a> {
 fn is_printable(b: u8) -> bool
     ensures { result ≡ printable b }
 {
-    matches!(b, 0x20..=0x7E)
+    matches!(b, b' '..=b'~')
 }
 
 fn all_printable(text: &[u8]) -> bool
     ensures { result ≡ all_printable text.now }
 {
-    for b in text {
-        if !is_printable(*b) {
-            return false;
-        }
-    }
-    true
+    text.iter().all(|&b| is_printable(b))
 }
 
 impl Line<'_> {
@@ -70,16 +66,12 @@ impl Line<'_> {
             _ => 0,
         }
     }
-}
 
-/// The line and the rest, if the line's fields are in range.
-fn kept<'a>(line: Line<'a>, rest: &'a [u8]) -> Option<(Line<'a>, &'a [u8])>
-    ensures { given result ≡ whole 0 (says line.entry) rest.now }
-{
-    if line.in_range() {
-        Some((line, rest))
-    } else {
-        None
+    /// The line, if its fields are in range.
+    pub(crate) fn checked(self) -> Option<Self>
+        ensures { option_map says result ≡ in_range_only (says self.entry) }
+    {
+        Some(self).filter(Line::in_range)
     }
 }
 
@@ -90,7 +82,8 @@ fn read_dose(after: &[u8]) -> Option<(Line<'_>, &[u8])>
         return None;
     };
     let grams = u32::from_le_bytes([*a, *b, *c, *d]);
-    kept(Line::Dose { bin: *bin, grams }, rest)
+    let line = Line::Dose { bin: *bin, grams }.checked()?;
+    Some((line, rest))
 }
 
 fn read_mix(after: &[u8]) -> Option<(Line<'_>, &[u8])>
@@ -100,7 +93,8 @@ fn read_mix(after: &[u8]) -> Option<(Line<'_>, &[u8])>
         return None;
     };
     let seconds = u16::from_le_bytes([*a, *b]);
-    kept(Line::Mix { seconds }, rest)
+    let line = Line::Mix { seconds }.checked()?;
+    Some((line, rest))
 }
 
 fn read_remark(after: &[u8]) -> Option<(Line<'_>, &[u8])>
@@ -109,12 +103,9 @@ fn read_remark(after: &[u8]) -> Option<(Line<'_>, &[u8])>
     let [size, more @ ..] = after else {
         return None;
     };
-    let size = usize::from(*size);
-    if more.len() < size {
-        return None;
-    }
-    let (text, rest) = more.split_at(size);
-    kept(Line::Remark(text), rest)
+    let (text, rest) = more.split_at_checked(usize::from(*size))?;
+    let line = Line::Remark(text).checked()?;
+    Some((line, rest))
 }
 
 /// Reads one line: the line and the rest of the recipe, or that there is none.
@@ -128,37 +119,24 @@ pub fn read_line(recipe: &[u8]) -> Option<(Line<'_>, &[u8])>
     match char::from(*letter) {
         'D' => read_dose(after),
         'M' => read_mix(after),
-        'E' => kept(Line::Empty, after),
+        'E' => Some((Line::Empty, after)),
         'R' => read_remark(after),
         _ => None,
     }
 }
 
-/// Lays bytes over the front of a buffer, and tells how many.
-fn cover(bytes: &[u8], out: &mut [u8]) -> Result<usize, Refusal>
-    ensures value { result ≡ covering bytes.now out.old }
-    ensures after { out.new ≡ covered bytes.now out.old }
+/// Lays a line's head and its text over the front of a buffer, and tells how many bytes they are.
+fn cover(head: &[u8], text: &[u8], out: &mut [u8]) -> Result<usize, Refusal>
+    ensures value { result ≡ covering (head.now ++ text.now) out.old }
+    ensures after { out.new ≡ covered (head.now ++ text.now) out.old }
 {
-    let size = bytes.len();
+    // A test and two ranges: through `get_mut` or `split_at_mut_checked` the proof loses what is written back.
+    let size = head.len() + text.len();
     if out.len() < size {
         return Err(Refusal::BufferTooShort);
     }
-    out[0..size].copy_from_slice(bytes);
-    Ok(size)
-}
-
-fn write_remark(text: &[u8], out: &mut [u8]) -> Result<usize, Refusal>
-    requires { length text.now ≤ 80 }
-    ensures value { result ≡ covering (bytes_of (remark text.now)) out.old }
-    ensures after { out.new ≡ covered (bytes_of (remark text.now)) out.old }
-{
-    let size = 2 + text.len();
-    if out.len() < size {
-        return Err(Refusal::BufferTooShort);
-    }
-    out[0] = b'R';
-    out[1] = text.len() as u8;
-    out[2..size].copy_from_slice(text);
+    out[..head.len()].copy_from_slice(head);
+    out[head.len()..size].copy_from_slice(text);
     Ok(size)
 }
 
@@ -169,19 +147,19 @@ pub fn write_line(line: Line<'_>, out: &mut [u8]) -> Result<usize, Refusal>
     ensures after { out.new ≡ written (says line.entry) out.old }
     ensures back { ReadBack (says line.entry) out.old out.new result }
 {
-    if !line.in_range() {
-        return Err(Refusal::BadLine(0));
-    }
-    match line {
+    match line.checked().ok_or(Refusal::BadLine(0))? {
         Line::Dose { bin, grams } => {
             let [a, b, c, d] = grams.to_le_bytes();
-            cover(&[b'D', bin, a, b, c, d], out)
+            cover(&[b'D', bin, a, b, c, d], &[], out)
         }
         Line::Mix { seconds } => {
             let [a, b] = seconds.to_le_bytes();
-            cover(&[b'M', a, b], out)
+            cover(&[b'M', a, b], &[], out)
         }
-        Line::Empty => cover(b"E", out),
-        Line::Remark(text) => write_remark(text, out),
+        Line::Empty => cover(b"E", &[], out),
+        Line::Remark(text) => {
+            let size = u8::try_from(text.len()).map_err(|_| Refusal::BadLine(0))?;
+            cover(&[b'R', size], text, out)
+        }
     }
 }

@@ -218,13 +218,13 @@ const NO_TEXTS: [&str; 24] = [
 #[test]
 fn texts_of_lines(rt: HostRuntime) -> Result<(), Fail> {
     for text in TEXTS {
-        let Some(line) = parse_line(text) else {
-            return Err(Fail::new(text));
-        };
+        let line = Line::try_from(text)?;
+        assert_eq!(rt; parse_line(text), Some(line));
         assert_eq!(rt; line.to_string(rt.alloc())?.as_str(), text);
     }
     for text in NO_TEXTS {
         assert!(rt; parse_line(text).is_none(), "{}", text);
+        assert_eq!(rt; Line::try_from(text), Err(NotALine));
     }
     Ok(())
 }

@@ -3,7 +3,7 @@ ghost use Rattle.std.specs.Prelude.{◌≡◌};
 ghost use Rattle.recipe.specs.Laws.{Judged};
 ghost use Rattle.recipe.specs.Verdict.{walked, verdict};
 
-use crate::lines::read_line;
+use crate::placed::PlacedLines;
 use crate::trough::Phase;
 use refusal::Refusal;
 
@@ -13,7 +13,9 @@ pub const MOST_GRAMS: u32 = 12_000_000;
 /// What is lawful in a recipe: how many lines it has, and how many grams they dose.
 #[derive(Clone, Copy, PartialEq, Eq, Debug)]
 pub struct Lawful {
+    /// Lines, of every letter.
     pub lines: usize,
+    /// The sum of the doses.
     pub grams: u32,
 }
 
@@ -22,22 +24,14 @@ pub struct Lawful {
 fn walk(recipe: &[u8]) -> Result<Lawful, Refusal>
     ensures { result ≡ walked recipe.now }
 {
-    let mut rest = recipe;
     let mut phase = Phase::Empty;
     let mut lines = 0;
-    let mut grams: u32 = 0;
-    while !rest.is_empty() {
-        let place = recipe.len() - rest.len();
-        let Some((line, after)) = read_line(rest) else {
-            return Err(Refusal::BadLine(place));
-        };
-        let Some(next) = phase.step(line) else {
-            return Err(Refusal::WrongPhase(place));
-        };
-        phase = next;
+    let mut grams = 0u32;
+    for placed in PlacedLines::new(recipe) {
+        let (place, line) = placed?;
+        phase = phase.step(line).ok_or(Refusal::WrongPhase(place))?;
         lines += 1;
         grams = grams.saturating_add(line.grams());
-        rest = after;
     }
     if phase != Phase::Empty {
         return Err(Refusal::WrongPhase(recipe.len()));

@@ -1,9 +1,6 @@
-use Rattle.std.proofs.Common.{length, vec_items}
+use Rattle.std.proofs.Common.{vec_items}
 use Rattle.hexadecimal.proofs.Reading.{Read}
 use Rattle.hexadecimal.proofs.decode.Given as goal
 
-abbrev pub invariant-loop-rest : goal.invariant-loop-rest
-invariant-loop-rest l = Read l.text (vec_items l.bytes) l.rest
-
-abbrev pub decreases-loop-rest : goal.decreases-loop-rest
-decreases-loop-rest l = length l.rest
+abbrev pub invariant-loop-high : goal.invariant-loop-high
+invariant-loop-high l = Read l.pairs (vec_items l.bytes) l.high-index
