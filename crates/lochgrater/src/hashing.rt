@@ -1,33 +1,33 @@
 //! `lochgrater hash FILE..`: a line for each file, digest, two spaces, name.
+use crate::failure::{Failure, InFile};
 use crate::input::read_up_to;
-use crate::{Status, fail};
 use beetle::{DIGEST_BYTES, LONGEST_TEXT};
 use photon::TableEngine;
+use std::process::ExitCode;
 
-pub fn hash_files(rt: &HostRuntime, names: &[String]) -> anyhow::Result<Status> {
+/// Hashes every file. One that cannot be hashed is named on standard error, and the others go on.
+pub fn hash_files<'a>(rt: &HostRuntime, names: &'a [String]) -> Result<ExitCode, Failure<'a>> {
     if names.is_empty() {
-        return crate::usage(rt);
+        return Err(Failure::Usage);
     }
-    let mut status = Status::Done;
+    let mut status = ExitCode::SUCCESS;
     for name in names {
-        if let Status::Failed = hash_file(rt, name.as_str())? {
-            status = Status::Failed;
+        match hash_file(rt, name.as_str()) {
+            Err(failure @ Failure::File { .. }) => {
+                eprintln!(rt; "{failure}")?;
+                status = ExitCode::FAILURE;
+            }
+            ended => ended?,
         }
     }
     Ok(status)
 }
 
-fn hash_file(rt: &HostRuntime, name: &str) -> anyhow::Result<Status> {
-    // One byte more than a text may have: a longer file is then refused as it should be.
-    let text = match read_up_to(rt, name, LONGEST_TEXT as u64 + 1) {
-        Ok(text) => text,
-        Err(e) => return fail(rt, name, e),
-    };
+fn hash_file<'a>(rt: &HostRuntime, name: &'a str) -> Result<(), Failure<'a>> {
+    let text = read_up_to(rt, name, LONGEST_TEXT)?;
     let mut digest = [0; DIGEST_BYTES];
-    if let Err(refusal) = beetle::hash(&TableEngine, text.as_slice(), &mut digest) {
-        return fail(rt, name, refusal);
-    }
+    beetle::hash(&TableEngine, text.as_slice(), &mut digest).in_file(name)?;
     let shown = hexadecimal::encode(rt.alloc(), &digest)?;
     println!(rt; "{shown}  {name}")?;
-    Ok(Status::Done)
+    Ok(())
 }

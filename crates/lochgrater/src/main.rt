@@ -2,6 +2,7 @@
 #![tactic(auto)]
 
 mod cipher;
+mod failure;
 mod hashing;
 mod input;
 mod judging;
@@ -9,8 +10,8 @@ mod output;
 mod paging;
 mod speed;
 
+use failure::Failure;
 use std::env;
-use std::fmt::Display;
 use std::process::ExitCode;
 
 const VERSION: &str = "lochgrater 0.1.0";
@@ -32,63 +33,39 @@ WORDS of cipher:
   --nonce HEX                   16 bytes
   --ad HEX | --ad-file FILE     associated data, none if left out";
 
-/// How a command ended. What failed has been said on standard error by then.
-#[derive(Clone, Copy)]
-enum Status {
-    Done,
-    Failed,
-}
-
-fn usage(rt: &HostRuntime) -> anyhow::Result<Status> {
-    eprintln!(rt; "{HELP}")?;
-    Ok(Status::Failed)
-}
-
-/// Says what went wrong with the file `name`.
-fn fail(rt: &HostRuntime, name: &str, why: impl Display + Drop) -> anyhow::Result<Status> {
-    eprintln!(rt; "lochgrater: {name}: {why}")?;
-    Ok(Status::Failed)
-}
-
-fn run(rt: &HostRuntime, words: &[String]) -> anyhow::Result<Status> {
-    let Some((command, names)) = words.split_first() else {
-        return usage(rt);
+fn run<'a>(rt: &HostRuntime, words: &'a [String]) -> Result<ExitCode, Failure<'a>> {
+    let [command, names @ ..] = words else {
+        return Err(Failure::Usage);
     };
     match command.as_str() {
-        "hash" => hashing::hash_files(rt, names),
-        "page" => paging::run(rt, names),
-        "judge" => judging::judge(rt, names),
-        "recipe" => judging::make(rt, names),
-        "cipher" => cipher::run(rt, names),
-        "speed" => speed::compare(rt),
-        "help" => {
-            println!(rt; "{HELP}")?;
-            Ok(Status::Done)
-        }
-        "version" => {
-            println!(rt; "{VERSION}")?;
-            Ok(Status::Done)
-        }
-        _ => usage(rt),
+        "hash" => return hashing::hash_files(rt, names),
+        "page" => paging::run(rt, names)?,
+        "judge" => judging::judge(rt, names)?,
+        "recipe" => judging::make(rt, names)?,
+        "cipher" => cipher::run(rt, names)?,
+        "speed" => speed::compare(rt)?,
+        "help" => println!(rt; "{HELP}")?,
+        "version" => println!(rt; "{VERSION}")?,
+        _ => return Err(Failure::Usage),
     }
+    Ok(ExitCode::SUCCESS)
 }
 
-fn words(rt: &HostRuntime) -> anyhow::Result<Vec<String>> {
+fn words(rt: &HostRuntime) -> Result<Vec<String>, Failure<'static>> {
     Ok(env::args(rt)?.skip(1).collect(rt.alloc())?)
 }
 
-/// Ends with status 1 where a command failed.
+/// The status of a command. Why it failed is said on standard error.
+fn status(rt: &HostRuntime, ended: Result<ExitCode, Failure<'_>>) -> ExitCode {
+    ended.unwrap_or_else(|failure| {
+        let _ = eprintln!(rt; "{failure}");
+        ExitCode::FAILURE
+    })
+}
+
 fn main(rt: HostRuntime) -> ExitCode {
-    let ended = match words(&rt) {
-        Ok(all) => run(&rt, all.as_slice()),
-        Err(e) => Err(e),
-    };
-    match ended {
-        Ok(Status::Done) => ExitCode::SUCCESS,
-        Ok(Status::Failed) => ExitCode::FAILURE,
-        Err(e) => {
-            let _ = eprintln!(rt; "lochgrater: {e}");
-            ExitCode::FAILURE
-        }
+    match words(&rt) {
+        Ok(words) => status(&rt, run(&rt, words.as_slice())),
+        Err(failure) => status(&rt, Err(failure)),
     }
 }

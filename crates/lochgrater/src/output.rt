@@ -1,19 +1,22 @@
 //! Files that are written whole or not at all.
+use crate::failure::{Failure, InFile};
 use std::io::Write;
 use std::{fs, io};
 
 /// Writes the bytes to a file beside `name` and then gives it that name, so that `name` never holds a part of them.
 /// `-` is standard output.
-pub fn write_whole(rt: &HostRuntime, name: &str, bytes: &[u8]) -> io::Result<()> {
+pub fn write_whole<'a>(rt: &HostRuntime, name: &'a str, bytes: &[u8]) -> Result<(), Failure<'a>> {
+    write(rt, name, bytes).in_file(name)
+}
+
+fn write(rt: &HostRuntime, name: &str, bytes: &[u8]) -> io::Result<()> {
     if name == "-" {
         return rt.stdout().write_all(bytes);
     }
-    let mut part = String::from_str(rt.alloc(), name)?;
-    part.push_str(".part")?;
-    let written = fs::write(rt, part.as_str(), bytes);
-    if written.is_ok() {
-        return fs::rename(rt, part.as_str(), name);
+    let part = format!(in rt.alloc(); "{name}.part")?;
+    if let Err(error) = fs::write(rt, part.as_str(), bytes) {
+        let _ = fs::remove_file(rt, part.as_str());
+        return Err(error);
     }
-    let _ = fs::remove_file(rt, part.as_str());
-    written
+    fs::rename(rt, part.as_str(), name)
 }

@@ -1,68 +1,52 @@
 //! `lochgrater page FILE`: the runs of a number page.
+use crate::failure::{Failure, InFile};
 use crate::input::read_up_to;
-use crate::{Status, fail};
 use register::{ChartRegister, NUMBERS, Register, SpanRegister, page};
-use std::io;
+use std::{io, iter};
 
-/// One byte more than the longest page that a count of two bytes can ask for.
-const MOST: u64 = 2 + 4 * 65_535 + 1;
+/// The bytes of the longest page that a count of two bytes can ask for.
+const LONGEST_PAGE: usize = 2 + 4 * 65_535;
 
-pub fn run(rt: &HostRuntime, words: &[String]) -> anyhow::Result<Status> {
-    match words {
-        [name] => show(rt, name.as_str(), ChartRegister::new()),
-        [option, kind, name] if option.as_str() == "--register" => show_in(
-            rt,
-            kind.as_str(),
-            name.as_str(),
-        ),
-        [name, option, kind] if option.as_str() == "--register" => show_in(
-            rt,
-            kind.as_str(),
-            name.as_str(),
-        ),
-        _ => crate::usage(rt),
-    }
-}
-
-fn show_in(rt: &HostRuntime, kind: &str, name: &str) -> anyhow::Result<Status> {
+pub fn run<'a>(rt: &HostRuntime, words: &'a [String]) -> Result<(), Failure<'a>> {
+    let (kind, name) = match words {
+        [name] => ("chart", name.as_str()),
+        [option, kind, name] | [name, option, kind] if option.as_str() == "--register" => {
+            (kind.as_str(), name.as_str())
+        }
+        _ => return Err(Failure::Usage),
+    };
     match kind {
         "chart" => show(rt, name, ChartRegister::new()),
         "span" => show(rt, name, SpanRegister::new()),
-        _ => crate::usage(rt),
+        _ => Err(Failure::Usage),
     }
 }
 
 /// Loads a page into a blank register and prints what the register tells.
-fn show<R: Register + Drop>(
+fn show<'a, R: Register + Drop>(
     rt: &HostRuntime,
-    name: &str,
+    name: &'a str,
     mut register: R,
-) -> anyhow::Result<Status> {
-    let bytes = match read_up_to(rt, name, MOST) {
-        Ok(bytes) => bytes,
-        Err(e) => return fail(rt, name, e),
-    };
-    if let Err(refusal) = page::load(&mut register, bytes.as_slice()) {
-        return fail(rt, name, refusal);
-    }
+) -> Result<(), Failure<'a>> {
+    let bytes = read_up_to(rt, name, LONGEST_PAGE)?;
+    page::load(&mut register, bytes.as_slice()).in_file(name)?;
     print_runs(rt, &register)?;
-    Ok(Status::Done)
+    Ok(())
 }
 
-fn print_runs<R: Register>(rt: &HostRuntime, register: &R) -> io::Result<()> {
+fn print_runs<R: Register>(rt: &impl Print, register: &R) -> io::Result<()> {
+    let runs = iter::successors(register.next_run(0), |run| {
+        let (first, len) = *run;
+        register.next_run(first.saturating_add(len))
+    });
     let mut used = 0u16;
-    let mut runs = 0u16;
-    let mut from = 0u16;
-    for _ in 0..NUMBERS {
-        let Some((first, len)) = register.next_run(from) else {
-            break;
-        };
-        from = first.saturating_add(len);
-        let last = from.saturating_sub(1);
+    let mut count = 0u16;
+    for (first, len) in runs.take(usize::from(NUMBERS)) {
+        let last = first.saturating_add(len).saturating_sub(1);
         println!(rt; "{first}-{last} {len}")?;
         used = used.saturating_add(len);
-        runs = runs.saturating_add(1);
+        count = count.saturating_add(1);
     }
     let free = NUMBERS.saturating_sub(used);
-    println!(rt; "{used} used, {free} free, {runs} runs")
+    println!(rt; "{used} used, {free} free, {count} runs")
 }

@@ -1,41 +1,20 @@
 //! Digests: fields Msg and MD.
+use crate::checking::Check;
 use crate::layout::Vector;
 use beetle::DIGEST_BYTES;
-use photon::{CellEngine, Engine, TableEngine};
+use photon::Engine;
+use std::alloc::Global;
 
 /// Whether the digest of a vector's message is the vector's.
-fn agrees<E: Engine>(engine: &E, vector: &Vector) -> anyhow::Result<bool> {
-    let expected = vector.field("MD")?;
-    let mut digest = [0; DIGEST_BYTES];
-    Ok(
-        beetle::hash(engine, vector.field("Msg")?, &mut digest).is_ok()
-            && &digest[0..DIGEST_BYTES] == expected,
-    )
-}
+pub struct Digests;
 
-fn run_over<E: Engine>(
-    rt: &HostRuntime,
-    engine: &E,
-    label: &str,
-    file: &str,
-    vectors: &[Vector],
-) -> anyhow::Result<bool> {
-    let mut agreed = 0u64;
-    for vector in vectors {
-        if agrees(engine, vector)? {
-            agreed = agreed.saturating_add(1);
-        } else {
-            let count = vector.count.as_str();
-            println!(rt; "{file}: Count = {count} disagrees over the {label} engine")?;
-        }
+impl Check for Digests {
+    const PASSED: &'static str = "digests agree";
+
+    fn passes<E: Engine>(_alloc: Global, engine: &E, vector: &Vector) -> anyhow::Result<bool> {
+        let expected = vector.field("MD")?;
+        let mut digest = [0; DIGEST_BYTES];
+        let answer = beetle::hash(engine, vector.field("Msg")?, &mut digest);
+        Ok(answer.is_ok() && digest.as_slice() == expected)
     }
-    let all = vectors.len() as u64;
-    println!(rt; "{file}: {agreed} of {all} digests agree over the {label} engine")?;
-    Ok(agreed == all)
-}
-
-pub fn run(rt: &HostRuntime, file: &str, vectors: &[Vector]) -> anyhow::Result<bool> {
-    let cell = run_over(rt, &CellEngine, "cell", file, vectors)?;
-    let table = run_over(rt, &TableEngine, "table", file, vectors)?;
-    Ok(cell && table)
 }

@@ -1,5 +1,5 @@
 //! The layout of a file of vectors.
-use anyhow::anyhow;
+use anyhow::Context;
 use std::alloc::Global;
 use std::collections::BTreeMap;
 
@@ -11,51 +11,42 @@ pub struct Vector {
 }
 
 impl Vector {
-    fn new(heap: Global) -> Vector {
+    fn new(alloc: Global) -> Vector {
         Vector {
-            count: String::new(heap),
-            fields: BTreeMap::new(heap),
+            count: String::new(alloc),
+            fields: BTreeMap::new(alloc),
         }
     }
 
     /// The bytes of the field `name`.
     pub fn field(&self, name: &str) -> anyhow::Result<&[u8]> {
-        match self.fields.get(name) {
-            Some(bytes) => Ok(bytes.as_slice()),
-            None => Err(anyhow!("a vector lacks a field")),
-        }
+        let bytes = self.fields.get(name).context("a vector lacks a field")?;
+        Ok(bytes.as_slice())
     }
 
     /// Takes in one line `NAME = VALUE`.
-    fn take_line(&mut self, heap: Global, name: &str, value: &str) -> anyhow::Result<()> {
+    fn take_line(&mut self, alloc: Global, name: &str, value: &str) -> anyhow::Result<()> {
         if name == "Count" {
-            self.count = String::from_str(heap, value)?;
+            self.count = String::from_str(alloc, value)?;
             return Ok(());
         }
-        match hexadecimal::decode(heap, value)? {
-            Some(bytes) => {
-                self.fields.insert(String::from_str(heap, name)?, bytes)?;
-                Ok(())
-            }
-            None => Err(anyhow!("a field is not hexadecimal")),
-        }
+        let bytes = hexadecimal::decode(alloc, value)?.context("a field is not hexadecimal")?;
+        self.fields.insert(String::from_str(alloc, name)?, bytes)?;
+        Ok(())
     }
 }
 
 /// The vectors of a file, in order.
-pub fn parse(heap: Global, text: &str) -> anyhow::Result<Vec<Vector>> {
-    let mut all = Vec::new(heap);
-    for line in text.lines() {
-        let Some((name, value)) = line.split_once('=') else {
-            continue;
-        };
-        if name.trim() == "Count" {
-            all.push(Vector::new(heap))?;
+pub fn parse(alloc: Global, text: &str) -> anyhow::Result<Vec<Vector>> {
+    let mut all = Vec::new(alloc);
+    for (name, value) in text.lines().filter_map(|line| line.split_once('=')) {
+        let name = name.trim();
+        if name == "Count" {
+            all.push(Vector::new(alloc))?;
         }
-        match all.last_mut() {
-            Some(vector) => vector.take_line(heap, name.trim(), value.trim())?,
-            None => return Err(anyhow!("a file of vectors begins with a count")),
-        }
+        all.last_mut()
+            .context("a file of vectors begins with a count")?
+            .take_line(alloc, name, value.trim())?;
     }
     Ok(all)
 }

@@ -1,5 +1,6 @@
 //! The words after `cipher seal` and `cipher open`.
-use std::alloc::{AllocError, Global};
+use crate::failure::Failure;
+use crate::input::read_up_to;
 
 /// The rates delivered, by their bits.
 #[derive(Clone, Copy)]
@@ -8,11 +9,21 @@ pub enum Bits {
     Of32,
 }
 
-/// Something that is given as a word or in a file.
+/// Bytes that are given as a word in hexadecimal digits, or in a file.
 #[derive(Clone, Copy)]
 pub enum Given<'a> {
     Word(&'a str),
     File(&'a str),
+}
+
+impl<'a> Given<'a> {
+    /// The bytes: of a file at most one more than `longest`; `None` where a word is not hexadecimal.
+    pub fn read(self, rt: &HostRuntime, longest: usize) -> Result<Option<Vec<u8>>, Failure<'a>> {
+        match self {
+            Given::Word(text) => Ok(hexadecimal::decode(rt.alloc(), text)?),
+            Given::File(name) => Ok(Some(read_up_to(rt, name, longest)?)),
+        }
+    }
 }
 
 /// What the words say, all of it there.
@@ -27,7 +38,7 @@ pub struct Words<'a> {
 }
 
 /// What has been read so far.
-#[derive(Clone, Copy)]
+#[derive(Clone, Copy, Default)]
 struct Draft<'a> {
     bits: Option<Bits>,
     key: Option<Given<'a>>,
@@ -39,30 +50,22 @@ struct Draft<'a> {
 
 impl<'a> Draft<'a> {
     /// Takes an option and its value; `None` if there is no such option, no such value, or the option was there before.
-    fn option(mut self, name: &str, value: &'a str) -> Option<Draft<'a>> {
+    fn option(&mut self, name: &str, value: &'a str) -> Option<()> {
         match (name, value) {
-            ("--rate", "128") if self.bits.is_none() => self.bits = Some(Bits::Of128),
-            ("--rate", "32") if self.bits.is_none() => self.bits = Some(Bits::Of32),
-            ("--key", _) if self.key.is_none() => self.key = Some(Given::Word(value)),
-            ("--key-file", _) if self.key.is_none() => self.key = Some(Given::File(value)),
-            ("--nonce", _) if self.nonce.is_none() => self.nonce = Some(value),
-            ("--ad", _) if self.ad.is_none() => self.ad = Some(Given::Word(value)),
-            ("--ad-file", _) if self.ad.is_none() => self.ad = Some(Given::File(value)),
-            _ => return None,
+            ("--rate", "128") => set_once(&mut self.bits, Bits::Of128),
+            ("--rate", "32") => set_once(&mut self.bits, Bits::Of32),
+            ("--key", _) => set_once(&mut self.key, Given::Word(value)),
+            ("--key-file", _) => set_once(&mut self.key, Given::File(value)),
+            ("--nonce", _) => set_once(&mut self.nonce, value),
+            ("--ad", _) => set_once(&mut self.ad, Given::Word(value)),
+            ("--ad-file", _) => set_once(&mut self.ad, Given::File(value)),
+            _ => None,
         }
-        Some(self)
     }
 
     /// Takes the name of a file: the input, then the output.
-    fn name(mut self, name: &'a str) -> Option<Draft<'a>> {
-        if self.input.is_none() {
-            self.input = Some(name);
-        } else if self.output.is_none() {
-            self.output = Some(name);
-        } else {
-            return None;
-        }
-        Some(self)
+    fn name(&mut self, name: &'a str) -> Option<()> {
+        set_once(&mut self.input, name).or_else(|| set_once(&mut self.output, name))
     }
 
     fn whole(self) -> Option<Words<'a>> {
@@ -77,48 +80,27 @@ impl<'a> Draft<'a> {
     }
 }
 
+/// Sets what is not set; `None` if it is.
+fn set_once<T: Drop>(place: &mut Option<T>, value: T) -> Option<()> {
+    if place.is_some() {
+        return None;
+    }
+    *place = Some(value);
+    Some(())
+}
+
 impl<'a> Words<'a> {
     /// `None` where the words make no sense.
     pub fn parse(words: &'a [String]) -> Option<Words<'a>> {
-        let mut draft = Draft {
-            bits: None,
-            key: None,
-            nonce: None,
-            ad: None,
-            input: None,
-            output: None,
-        };
-        let mut rest = words;
-        while let [word, after @ ..] = rest {
+        let mut draft = Draft::default();
+        let mut words = words.iter();
+        while let Some(word) = words.next() {
             if word.as_str().starts_with("--") {
-                let [value, later @ ..] = after else {
-                    return None;
-                };
-                draft = draft.option(word.as_str(), value.as_str())?;
-                rest = later;
+                draft.option(word.as_str(), words.next()?.as_str())?;
             } else {
-                draft = draft.name(word.as_str())?;
-                rest = after;
+                draft.name(word.as_str())?;
             }
         }
         draft.whole()
-    }
-}
-
-/// Sixteen bytes, or `None`.
-pub fn sixteen(bytes: &[u8]) -> Option<[u8; 16]> {
-    if bytes.len() != 16 {
-        return None;
-    }
-    let mut all = [0; 16];
-    all.copy_from_slice(bytes);
-    Some(all)
-}
-
-/// The sixteen bytes of 32 hexadecimal digits, or `None`.
-pub fn sixteen_from_hex(heap: Global, text: &str) -> Result<Option<[u8; 16]>, AllocError> {
-    match hexadecimal::decode(heap, text)? {
-        Some(bytes) => Ok(sixteen(bytes.as_slice())),
-        None => Ok(None),
     }
 }
