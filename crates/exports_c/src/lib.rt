@@ -1,5 +1,6 @@
 //! The calls of `exports` for C, in a static library. A slice passes as a pointer and a length.
 //! A symbol of C is not generic, and states a contract of its own: so there is one for each rate, with its clauses.
+//! Each answers a number, since C has no `Result`.
 #![tactic(auto)]
 
 ghost use Rattle.std.specs.Prelude.{◌≡◌};

@@ -14,6 +14,7 @@ fn write(rt: &HostRuntime, name: &str, bytes: &[u8]) -> io::Result<()> {
         return rt.stdout().write_all(bytes);
     }
     let part = format!(in rt.alloc(); "{name}.part")?;
+    // By hand, since the part is removed before the error goes on.
     if let Err(error) = fs::write(rt, part.as_str(), bytes) {
         let _ = fs::remove_file(rt, part.as_str());
         return Err(error);

@@ -54,6 +54,7 @@ fn nanos_taken<E: Engine>(
     for i in 0..turns {
         // Which byte changes depends on the state, so that no compiler can leave a permutation out.
         let at = usize::from(state[0] % 32);
+        // `as` after a mask: the low byte is wanted.
         state[at] ^= (i & 0xff) as u8;
         engine.permute(state);
     }

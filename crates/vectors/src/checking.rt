@@ -13,6 +13,7 @@ pub trait Check {
 }
 
 /// Whether every vector passes. Those that do are counted, and the others named.
+/// Label, file and vectors stand apart: a struct for them would have this one use.
 fn run_over<C: Check, E: Engine>(
     rt: &(impl Print + AllocGlobal),
     engine: &E,
