@@ -2,18 +2,29 @@
 //! The kit's library `hex` does the like; it would be one more crate whose statements are trusted.
 #![tactic(auto)]
 
-ghost use Rattle.std.specs.Prelude.{◌≡◌, IfOk, Some, None, string_bytes, MatchOption};
-ghost use Rattle.hexadecimal.specs.Hex.{hex_of, byte_of, bytes_of};
+ghost use Rattle.std.specs.Prelude.{◌≡◌, ◌<◌, IfOk, Some, None, string_bytes, MatchOption};
+ghost use Rattle.hexadecimal.specs.Hex.{digit, hex_of, byte_of, bytes_of};
 
 use std::alloc::{AllocError, Global};
 
+/// The lower-case digit of a number below 16.
+fn digit_of(n: u8) -> char
+    requires { n < 16 }
+    ensures value { result ≡ digit n }
+    ensures ascii { result < 128 }
+{
+    char::from_digit(u32::from(n), 16).unwrap()
+}
+
 /// The bytes in lower-case digits, the high half of each byte first.
+// Digit by digit: `write!` with `{b:02x}` takes three to six times as long.
 pub fn encode(alloc: Global, bytes: &[u8]) -> Result<String, AllocError>
     ensures { IfOk result (λ s. string_bytes s ≡ hex_of bytes.now) }
 {
     let mut text = String::new(alloc);
     for b in bytes {
-        write!(text, "{b:02x}")?;
+        text.push(digit_of(*b / 16))?;
+        text.push(digit_of(*b % 16))?;
     }
     Ok(text)
 }
