@@ -10,7 +10,7 @@ use std::{fmt, io};
 pub enum Failure<'a> {
     /// The command's words make no sense.
     Usage,
-    /// A key has not 16 bytes.
+    /// A key has not 16 bytes. The help is printed after it.
     KeySize,
     /// Something is wrong with the file of that name.
     File { name: &'a str, fault: Fault },
@@ -49,10 +49,9 @@ impl fmt::Display for Failure<'_> {
     fn fmt<W: fmt::Write>(&self, f: &mut fmt::Formatter<W>) -> fmt::Result {
         match self {
             Failure::Usage => f.write_str(HELP),
-            Failure::KeySize => write!(
-                f,
-                "lochgrater: a key has 16 bytes, which are 32 hexadecimal digits\n{HELP}"
-            ),
+            Failure::KeySize => {
+                f.write_str("lochgrater: a key has 16 bytes, which are 32 hexadecimal digits")
+            }
             Failure::File { name, fault } => write!(f, "lochgrater: {name}: {fault}"),
             Failure::Memory(error) => write!(f, "lochgrater: {error}"),
             Failure::System(error) => write!(f, "lochgrater: {error}"),

@@ -55,12 +55,26 @@ fn words(rt: &HostRuntime) -> Result<Vec<String>, Failure<'static>> {
     Ok(env::args(rt)?.skip(1).collect(rt.alloc())?)
 }
 
-/// The status of a command. Why it failed is said on standard error.
+/// The status of a command. Why it failed is said on standard error, and where that fails, why it could not be said.
 fn status(rt: &HostRuntime, ended: Result<ExitCode, Failure<'_>>) -> ExitCode {
-    ended.unwrap_or_else(|failure| {
-        let _ = eprintln!(rt; "{failure}");
-        ExitCode::FAILURE
-    })
+    ended
+        .or_else(|failure| tell(rt, failure))
+        .unwrap_or_else(|failure| {
+            let _ = eprintln!(rt; "{failure}");
+            ExitCode::FAILURE
+        })
+}
+
+/// Says why a command failed. What memory or the system failed in is handed on, and so is a failure to say it.
+fn tell<'a>(rt: &HostRuntime, failure: Failure<'a>) -> Result<ExitCode, Failure<'a>> {
+    if let Failure::Memory(_) | Failure::System(_) = failure {
+        return Err(failure);
+    }
+    eprintln!(rt; "{failure}")?;
+    if let Failure::KeySize = failure {
+        eprintln!(rt; "{HELP}")?;
+    }
+    Ok(ExitCode::FAILURE)
 }
 
 fn main(rt: HostRuntime) -> ExitCode {
