@@ -22,7 +22,7 @@ xor_zero a b e = sym (xor_zero_r a) ∙ ap (bit_xor a) (sym e) ∙ xor_back a b
 abbrev pub differing : ℕ → List ℕ → List ℕ → ℕ
 differing d xs ys = fold (λ a (p : ℕ × ℕ). bit_or a (bit_xor p.0 p.1)) d (zip xs ys)
 
-same_if_none : (d : ℕ) (xs ys : List ℕ) → length xs ≡ length ys → differing d xs ys ≡ 0 → (d ≡ 0) × (xs ≡ ys)
+pub same_if_none : (d : ℕ) (xs ys : List ℕ) → length xs ≡ length ys → differing d xs ys ≡ 0 → (d ≡ 0) × (xs ≡ ys)
 same_if_none d [] [] same e = (e, refl)
 same_if_none d [] (y ∷ ys) same e = absurd (omega arith)
 same_if_none d (x ∷ xs) [] same e = absurd (omega arith)
@@ -31,7 +31,7 @@ same_if_none d (x ∷ xs) (y ∷ ys) same e =
     let none = or_zero d (bit_xor x y) rest.0 in
     (none.0, (λ i. xor_zero x y none.1 i ∷ rest.1 i))
 
-none_if_same : (d : ℕ) (xs : List ℕ) → d ≡ 0 → differing d xs xs ≡ 0
+pub none_if_same : (d : ℕ) (xs : List ℕ) → d ≡ 0 → differing d xs xs ≡ 0
 none_if_same d [] e = e
 none_if_same d (x ∷ xs) e = none_if_same (bit_or d (bit_xor x x)) xs (λ i. bit_or (e i) (xor_self x i))
 

@@ -1,36 +1,30 @@
 -- The shuffled state, byte by byte. Assumes nothing.
-use Rattle.std.proofs.Common.{◌≡◌, ℕ, ◌+◌, ◌-◌, ◌*◌, ◌/◌, ◌%◌, ◌<◌, ◌≤◌, List, [], ◌∷◌, ◌++◌, map, length, get_or, take, drop, replicate, sym, refl, ap, ◌∙◌, ⊎_elim, arith, length-append, length-drop, length-take-le, get_or-drop, get_or-take, take-take}
-use lib.Bits.{xor_comm}
+use Rattle.std.proofs.Common.{◌≡◌, ℕ, zero, suc, ◌+◌, ◌-◌, ◌*◌, ◌/◌, ◌%◌, ◌<◌, ◌≤◌, List, [], ◌∷◌, ◌++◌, map, length, get_or, take, drop, replicate, sym, refl, ap, ◌∙◌, ⊎_elim, arith, length-append, length-drop, length-take-le, get_or-drop, get_or-take, take-take, ext_get_or}
+use lib.Bits.{bit_xor}
 use lib.ListN.{length-replicate}
 use Rattle.std.specs.List.{range_with_len}
 use Rattle.std.proofs.lemmas.List.FromFn.{get_or-map-range_with_len, length-map-range_with_len, fill_by_all}
-use Rattle.std.proofs.lemmas.List.{get_or_append_left, get_or-append_right, get_or_past, get_or-replicate, take-append-le}
+use Rattle.std.proofs.lemmas.List.{get_or_append_left, get_or-append_right, get_or_past, get_or-replicate}
 use Rattle.std.proofs.lemmas.Bool.{cases_lt}
 use Rattle.std.proofs.lemmas.Nat.{mod_below}
 use Rattle.beetle.specs.Blocks.{xored}
-use Rattle.beetle.specs.Rates.{Lawful}
 use Rattle.beetle.specs.Mode.{rotated, shuffled, masked}
+use Rattle.beetle.proofs.Xors.{length_xored}
 
 -- byte k of the first h bytes of S turned right by one bit
 abbrev pub turned : ℕ → List ℕ → ℕ → ℕ
 turned h S k = get_or S k 0 / 2 + 128 * (get_or S ((k + 1) % h) 0 % 2)
 
-length_rotated : (H : List ℕ) → length (rotated H) ≡ length H
+pub length_rotated : (H : List ℕ) → length (rotated H) ≡ length H
 unfolding rotated
 length_rotated H = length-map-range_with_len _ 0 (length H)
 
-get_or_rotated : (H : List ℕ) (k : ℕ) → k < length H → get_or (rotated H) k 0 ≡ turned (length H) H k
+pub get_or_rotated : (H : List ℕ) (k : ℕ) → k < length H → get_or (rotated H) k 0 ≡ turned (length H) H k
 unfolding rotated
 get_or_rotated H k h = get_or-map-range_with_len _ 0 (length H) k k 0 h (omega arith)
 
--- h is half the rate, and the state is long enough
-module _ (r h : ℕ) (S : List ℕ) (law : Lawful r) (half : h ≡ r / 2) (long_enough : 16 ≤ length S) where
-  even : h + h ≡ r
-  even = let e = law.even in omega arith
-
-  within : r ≤ length S
-  within = let most = law.most in omega arith
-
+-- r is even and the state is long enough
+module _ (r h : ℕ) (S : List ℕ) (half : r / 2 ≡ h) (even : h + h ≡ r) (within : r ≤ length S) where
   front : take h (take r S) ≡ take h S
   front = take-take h r S (omega arith)
 
@@ -39,7 +33,7 @@ module _ (r h : ℕ) (S : List ℕ) (law : Lawful r) (half : h ≡ r / 2) (long_
 
   parts : shuffled r (take r S) ≡ drop h (take r S) ++ rotated (take h S)
   unfolding shuffled
-  parts = (λ i. drop (sym half i) (take r S) ++ rotated (take (sym half i) (take r S))) ∙ ap (λ l. drop h (take r S) ++ rotated l) front
+  parts = (λ i. drop (half i) (take r S) ++ rotated (take (half i) (take r S))) ∙ ap (λ l. drop h (take r S) ++ rotated l) front
 
   back : length (drop h (take r S)) ≡ h
   back = length-drop h (take r S) ∙ (let e = length-take-le r S within in omega arith)
@@ -77,16 +71,19 @@ zeros_past xs n k split =
     (λ past. get_or-append_right xs (replicate k 0) (length xs) i 0 refl past ∙ get_or-replicate k (i - length xs) 0 0 (omega arith) ∙ sym (get_or_past xs i 0 past))
     (cases_lt i (length xs))))
 
--- XOR in the other order
-xored_comm : (xs ys : List ℕ) → length xs ≡ length ys → xored xs ys ≡ xored ys xs
-xored_comm [] [] e = refl
-xored_comm [] (y ∷ ys) e = absurd (omega arith)
-xored_comm (x ∷ xs) [] e = absurd (omega arith)
-xored_comm (x ∷ xs) (y ∷ ys) e = (λ i. xor_comm x y i ∷ xored_comm xs ys (omega arith) i)
+-- XOR byte by byte
+pub get_or_xored : (xs ys : List ℕ) (k : ℕ) → k < length xs → k < length ys → get_or (xored xs ys) k 0 ≡ bit_xor (get_or xs k 0) (get_or ys k 0)
+get_or_xored [] ys k h l = absurd (omega arith)
+get_or_xored (x ∷ xs) [] k h l = absurd (omega arith)
+get_or_xored (x ∷ xs) (y ∷ ys) zero h l = refl
+get_or_xored (x ∷ xs) (y ∷ ys) (suc k) h l = get_or_xored xs ys k (omega arith) (omega arith)
 
--- a block XOR the front of the shuffled state, after which Z stands
-pub masked_by : (r : ℕ) (S U Z : List ℕ) → length U ≤ length (shuffled r (take r S)) → xored U (take (length U) (shuffled r (take r S) ++ Z)) ≡ masked r S U
+-- a block that is masked byte by byte with a key whose first r bytes are the shuffled state
+pub masked_by : (r : ℕ) (S U K V : List ℕ) → take r K ≡ shuffled r (take r S) → length U ≤ r → r ≤ length K → length V ≡ length U → ((k : ℕ) → k < length U → get_or V k 0 ≡ bit_xor (get_or K k 0) (get_or U k 0)) → V ≡ masked r S U
 unfolding masked
-masked_by r S U Z fits =
-    let front = take-append-le (length U) (shuffled r (take r S)) Z fits in
-    ap (xored U) front ∙ xored_comm U (take (length U) (shuffled r (take r S))) (sym (length-take-le (length U) (shuffled r (take r S)) fits))
+masked_by r S U K V key fits long same each =
+    let mask : take (length U) (shuffled r (take r S)) ≡ take (length U) K = ap (take (length U)) (sym key) ∙ take-take (length U) r K fits in
+    let n = length-take-le (length U) K (omega arith) in
+    ext_get_or 0 V (xored (take (length U) K) U) (same ∙ sym (length_xored (take (length U) K) U ∙ n))
+    (λ k l. each k (omega arith) ∙ sym (get_or_xored (take (length U) K) U k (omega arith) (omega arith) ∙ ap (λ b. bit_xor b (get_or U k 0)) (get_or-take (length U) K k 0 (omega arith))))
+    ∙ ap (λ m. xored m U) (sym mask)

@@ -26,7 +26,7 @@ small xs h i =
 pub small_nil : Small []
 small_nil i = omega arith
 
-small_xored : (xs ys : List ℕ) → Small xs → Small ys → Small (xored xs ys)
+pub small_xored : (xs ys : List ℕ) → Small xs → Small ys → Small (xored xs ys)
 small_xored [] ys h k i = omega arith
 small_xored (x ∷ xs) [] h k i = h i
 small_xored (x ∷ xs) (y ∷ ys) h k zero = xor_lt 8 x y (h 0) (k 0)

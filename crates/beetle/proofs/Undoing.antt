@@ -24,7 +24,7 @@ xored_back [] (y ∷ ys) h = absurd (omega arith)
 xored_back (x ∷ xs) [] h = absurd (omega arith)
 xored_back (x ∷ xs) (y ∷ ys) h = (λ i. xor_back x y i ∷ xored_back xs ys (omega arith) i)
 
-abbrev through : ℕ → (List ℕ → List ℕ) → (List ℕ → List ℕ → Passed) → List ℕ → List ℕ → Passed
+abbrev pub through : ℕ → (List ℕ → List ℕ) → (List ℕ → List ℕ → Passed) → List ℕ → List ℕ → Passed
 through r P f S D = passed P f S (blocks r D)
 
 -- one block
@@ -34,7 +34,7 @@ module _ (r : ℕ) (law : Lawful r) where
     mask_long =
         let long = t.long in
         length-take-le (length U) (shuffled r (take r T))
-        (subst (λ n. length U ≤ n) (sym (length_shuffled r (r / 2) T law refl (omega arith))) u)
+        (subst (λ n. length U ≤ n) (sym (length_shuffled r (r / 2) T refl (omega arith) (omega arith))) u)
 
     length_masked : length (masked r T U) ≡ length U
     unfolding masked

@@ -26,7 +26,7 @@ xored_suc (x ∷ xs) (y ∷ ys) (suc i) h k = ap (λ l. bit_xor x y ∷ l) (xore
 pub xored_more : (xs ys : List ℕ) (i : ℕ) → i < length xs → i < length ys → set (xored xs (take i ys)) i (bit_xor (get_or (xored xs (take i ys)) i 0) (get_or ys i 0)) ≡ xored xs (take (i + 1) ys)
 xored_more xs ys i h k = xored_suc xs ys i h k ∙ ap (λ n. xored xs (take n ys)) (sym (add-one i))
 
-xored_zeros : (xs : List ℕ) (k : ℕ) → xored xs (replicate k 0) ≡ xs
+pub xored_zeros : (xs : List ℕ) (k : ℕ) → xored xs (replicate k 0) ≡ xs
 xored_zeros [] k = refl
 xored_zeros (x ∷ xs) zero = refl
 xored_zeros (x ∷ xs) (suc k) = (λ i. xor_zero_r x i ∷ xored_zeros xs k i)

@@ -103,8 +103,11 @@ impl<'e, E: Engine> Sponge<'e, E> {
         requires { length out.old ≡ length block.now.bytes.now }
         ensures { out.new ≡ masked R.BYTES self.now.state block.now.bytes.now }
     {
-        out.copy_from_slice(block.bytes);
-        xor(out, &shuffle::<R>(&self.state)[..block.bytes.len()]);
+        let key = shuffle::<R>(&self.state);
+        // Each byte of `out` is written once, so that no byte of a message stands there unmasked. By index: of bytes that `iter_mut` lends, a proof knows nothing afterwards.
+        for (i, byte) in block.bytes.iter().enumerate() {
+            out[i] = key[i] ^ *byte;
+        }
     }
 
     /// P of the state; then the block's other form comes out, and the message goes into the front.

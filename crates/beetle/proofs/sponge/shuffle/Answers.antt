@@ -10,6 +10,6 @@ returns g c =
     let law = g.R.Rate.lawful in
     let r = g.R.Rate.BYTES in
     let S = c.args.state.now in
-    let long = length_shuffled r (r / 2) S law refl (omega arith) in
+    let long = length_shuffled r (r / 2) S refl (omega arith) (omega arith) in
     from_fn_same _ (slice_index (shuffled r (take r S))) _ 16 (λ i y q below told. (search rules, search rules)) c.from_fn.result 0 c.from_fn.ensures.items
     ∙ zeros_past (shuffled r (take r S)) 16 (16 - r) (omega arith)
