@@ -6,6 +6,8 @@ ghost use Rattle.recipe.specs.Lines.{bytes_of, covering, covered, writing, writt
 
 use refusal::Refusal;
 
+// The functions marked `inline` take or return wide values, which would otherwise pass through memory.
+
 /// One line of a recipe.
 #[derive(Clone, Copy, PartialEq, Eq, Debug)]
 pub enum Line<'a> {
@@ -29,7 +31,7 @@ fn is_printable(b: u8) -> bool
 fn all_printable(text: &[u8]) -> bool
     ensures { result ≡ all_printable text.now }
 {
-    text.iter().all(|&b| is_printable(b))
+    text.iter().copied().all(is_printable)
 }
 
 impl Line<'_> {
@@ -71,7 +73,7 @@ impl Line<'_> {
     pub(crate) fn checked(self) -> Option<Self>
         ensures { option_map says result ≡ in_range_only (says self.entry) }
     {
-        Some(self).filter(Line::in_range)
+        self.in_range().then_some(self)
     }
 }
 
@@ -109,6 +111,7 @@ fn read_remark(after: &[u8]) -> Option<(Line<'_>, &[u8])>
 }
 
 /// Reads one line: the line and the rest of the recipe, or that there is none.
+#[inline(always)]
 pub fn read_line(recipe: &[u8]) -> Option<(Line<'_>, &[u8])>
     ensures value { given result ≡ read_line recipe.now }
     ensures tells { Told recipe.now (given result) }
@@ -142,6 +145,7 @@ fn cover(head: &[u8], text: &[u8], out: &mut [u8]) -> Result<usize, Refusal>
 
 /// Writes a line's bytes at the front of a buffer, and tells how many.
 /// A field out of range is refused first, then a buffer that is too short; the buffer is left alone then.
+#[inline]
 pub fn write_line(line: Line<'_>, out: &mut [u8]) -> Result<usize, Refusal>
     ensures value { result ≡ writing (says line.entry) out.old }
     ensures after { out.new ≡ written (says line.entry) out.old }

@@ -38,6 +38,8 @@ impl<'a> Iterator for PlacedLines<'a> {
 
     ghost remaining = { item_count placed_left };
 
+    // A wide value, as in `read_line`.
+    #[inline(always)]
     fn next(&mut self) -> Option<Result<(usize, Line<'a>), Refusal>> {
         if self.rest.is_empty() {
             return None;
