@@ -64,7 +64,7 @@ no_space n h = not_in_digits own (decimal n) 32 (digits_decimal own n h) (λ k. 
 
 -- and so for the two fields of a dose
 module _ (bs : List ℕ) (parts : Option (Bor (List ℕ) × Bor (List ℕ))) (h : IsSplitOnceResult 32 bs parts) (r : Option Entry) where
-  split_dose : (bin grams : ℕ) → in_range (dose bin grams) ≡ true → bs ≡ fields_of (dose bin grams)
+  pub split_dose : (bin grams : ℕ) → in_range (dose bin grams) ≡ true → bs ≡ fields_of (dose bin grams)
       → MatchOption parts ⊥ (λ x. (x.0.now ≡ decimal bin) × (x.1.now ≡ decimal grams))
   split_dose bin grams t q =
       let range = dose_range bin grams t in
