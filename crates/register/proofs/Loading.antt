@@ -48,7 +48,7 @@ module _ (xs : List Pair) (p : Pair) (gaps : apart 0 (xs ++ (p ∷ [])) ≡ true
   here : Apart (past 0 xs) p []
   here = apart_parts (past 0 xs) p [] (apart_split 0 xs (p ∷ []) gaps).1
 
-  begun_none : covered (begun 0) ≡ covered xs
+  pub begun_none : covered (begun 0) ≡ covered xs
   begun_none = fun_ext (λ k. covered_append xs ((p.0, 0) ∷ []) k ∙ ap (λ b. covered xs k || (b || false)) (within_none p.0 k) ∙ or_false (covered xs k))
 
   begun_apart : (j : ℕ) → j < p.1 → apart 0 (begun (j + 1)) ≡ true
@@ -70,7 +70,7 @@ module _ (xs : List Pair) (p : Pair) (gaps : apart 0 (xs ++ (p ∷ [])) ≡ true
       or_from _ _ (covered_past 0 xs n before (omega (arith, q.low))) (or_from _ _ (within_above (p.0, j) n (omega arith)) refl)
 
   -- one number more is granted
-  begun_mark : (m : Meaning) (j n : ℕ) → m.used ≡ covered (begun j) → length xs < m.limit → p.0 + j ≡ n → j < p.1 → Marks m n (Ok tt) (with_pairs m (begun (j + 1)))
+  pub begun_mark : (m : Meaning) (j n : ℕ) → m.used ≡ covered (begun j) → length xs < m.limit → p.0 + j ≡ n → j < p.1 → Marks m n (Ok tt) (with_pairs m (begun (j + 1)))
   begun_mark m j n is room e h =
       let used : with_number m.used n ≡ covered (begun (j + 1)) = ap (λ u. with_number u n) is ∙ sym (begun_more j n e) in
       let count : run_count (with_number m.used n) ≡ length xs + 1 = ap run_count used ∙ ap length (runs_covered (begun (j + 1)) (begun_apart j h)) ∙ length-append xs ((p.0, j + 1) ∷ []) in

@@ -6,7 +6,7 @@ ghost use Rattle.register.specs.Runs.{apart, blank_register, covered};
 ghost use Rattle.register.specs.Spans.{listed, span_meaning};
 
 use crate::spans::{SPANS, Span, Spans, before, covers, touches_at, touches_before};
-use crate::{Register, check_new};
+use crate::{NUMBERS, Register, check_new};
 use refusal::Refusal;
 
 /// Keeps each run of used numbers as one span.
@@ -34,7 +34,7 @@ impl SpanRegister {
     fn holds(&self, n: u16) -> bool
         ensures { result ≡ covered (listed self.now.spans) n }
     {
-        covers(self.spans.as_slice(), n)
+        n < NUMBERS && covers(self.spans.as_slice(), n)
     }
 
     /// Adds a number that no span holds. It looks for spans to join before it counts them.

@@ -48,7 +48,7 @@ impl Span {
     fn ends_before(&self, n: u16) -> bool
         ensures { result ≡ (self.now.first + self.now.len == n) }
     {
-        n.checked_sub(self.first) == Some(self.len)
+        self.first <= n && n - self.first == self.len
     }
 
     /// Takes in `by` more numbers at the end.
