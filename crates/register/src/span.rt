@@ -30,7 +30,7 @@ impl SpanRegister {
         }
     }
 
-    /// Whether `n` is used.
+    /// Whether `n` is used. No span is read for a number above 4,095.
     fn holds(&self, n: u16) -> bool
         ensures { result ≡ covered (listed self.now.spans) n }
     {
